@@ -1,0 +1,16 @@
+pub mod Divides
+pub mod Ends
+pub mod Exact
+pub mod FileSteps
+pub mod Follows
+pub mod Least
+pub mod LeastRun
+pub mod NodeLaws
+pub mod Ordered
+pub mod PieceLemmas
+pub mod Reach
+pub mod Ready
+pub mod Rows
+pub mod Told
+pub mod Walk
+pub mod Walking

@@ -1,0 +1,15 @@
+pub mod Arithmetic
+pub mod Core
+pub mod Cores
+pub mod Division
+pub mod Exact
+pub mod Nodes
+pub mod Outcomes
+pub mod Pieces
+pub mod Run
+pub mod RunLaws
+pub mod Shapes
+pub mod Tables
+pub mod ValuationFile
+pub mod ValuationShape
+pub mod Walk
