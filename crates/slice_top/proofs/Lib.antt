@@ -1,0 +1,17 @@
+pub mod Endings
+pub mod Envy
+pub mod Grammar
+pub mod LexTurns
+pub mod Lexing
+pub mod Lists
+pub mod Numbers
+pub mod Parsing
+pub mod PlainCores
+pub mod PlainSteps
+pub mod PlainTexts
+pub mod Rows
+pub mod SingleUse
+pub mod TellsEnvy
+pub mod UniqueAnswers
+pub mod UseTurns
+pub mod Worked

@@ -1,0 +1,15 @@
+pub mod Answers
+pub mod Commands
+pub mod LeastRuns
+pub mod PlainLexer
+pub mod PlainParser
+pub mod PlainProgram
+pub mod PlainRun
+pub mod PlainText
+pub mod PlainTokens
+pub mod PlainUse
+pub mod PlainViews
+pub mod Refusals
+pub mod Reports
+pub mod RunReport
+pub mod Stops
