@@ -14,10 +14,10 @@ use Rattle.slice_num.specs.declared.choice.Choice.TheVariants as choice
 use Rattle.slice_num.proofs.FieldLaws.{below-true, below-false, below-is, below-not, below_trans}
 use Rattle.slice_run.specs.Core.{Tree, Cut, Give, End, is_formed, is_agent, used}
 use Rattle.slice_run.specs.Pieces.{Piece, piece_at, emptied, given, joined, before_point, after_point, cut_pieces}
-use Rattle.slice_run.specs.Run.{Board, first_board, cut_on, give_on, Worth, State, Ending, Done, Stuck, Few, Bad, Many, ended, halted, at_most, is_right, cut_piece, cut_answered, cut_at, run, start}
+use Rattle.slice_run.specs.Run.{Board, first_board, cut_on, give_on, Worth, State, Ending, Done, Stuck, Few, Bad, Many, ended, halted, is_right, cut_piece, cut_answered, cut_at, run, start}
 use Rattle.slice_run.specs.Division.{lies_in, times_in}
 use Rattle.slice_run.specs.RunLaws.{IsDivision, RunsDivide}
-use Rattle.slice_run.specs.Arithmetic.{same_as}
+use Rattle.slice_run.specs.Arithmetic.{at_most, same_as}
 use Rattle.slice_run.proofs.Ready.{both_out, cut_formed, joined-append}
 
 -- ---- in how many stretches a point lies

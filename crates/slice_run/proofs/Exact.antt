@@ -10,7 +10,7 @@ use Rattle.std.proofs.lemmas.List.Elements.{All-head, All-tail}
 use Rattle.slice_num.specs.Rational.{Rational, ratio, plus, times, minus, whole, IsAtMost}
 use Rattle.slice_num.specs.Arithmetic.{inverse}
 use Rattle.slice_num.specs.Fitting.{Fitting, Fitted, fitting_of, below, next-out, sum_in-exact, product_in-exact}
-use Rattle.slice_num.specs.Valuation.{Valuation, IsValuation, Rises, clipped, value, piece_value, cake, cake_length}
+use Rattle.slice_num.specs.Valuation.{Valuation, IsValuation, clipped, value, piece_value, cake, cake_length}
 use Rattle.slice_num.specs.Prefix.{walked, before}
 use Rattle.slice_num.specs.declared.interval.Interval.{Interval}
 use Rattle.slice_num.proofs.Ring.{nat, add, mul, opp, ring_same}
@@ -19,8 +19,9 @@ use Rattle.slice_num.proofs.Laws.{times-ratios, plus_assoc, plus_zero}
 use Rattle.slice_num.proofs.Whole.{whole_num, whole_den}
 use Rattle.slice_num.proofs.FieldLaws.{negated-ratio, least_num, at_most_trans, plus_zero_right}
 use Rattle.slice_num.proofs.Values.{walked_is, value_is_difference, value_of_cake}
-use Rattle.slice_run.specs.Arithmetic.{place_from, place_in, height_value, value_up_to, values_from, whole_value}
+use Rattle.slice_run.specs.Arithmetic.{place_in, height_value, value_up_to, values_from, whole_value}
 use Rattle.slice_run.specs.Exact.{InOrder, ValueIsExact, ShareIsExact}
+use Rattle.slice_run.proofs.Steps.{place_from, place_in-is}
 use Rattle.slice_run.specs.declared.valuation.Place.{Place}
 
 -- the value of [0, p) where nothing is refused
@@ -95,11 +96,12 @@ not_clipped p h = by p.num (least_num p h)
     by (pos n) k = refl
     by (negsuc n) k = absurd (omega (arith, ints, k))
 
-before_is : (v : Valuation) (p : Rational) → Rises 0 v.ends → p.num ≡ pos (clipped p.num) → exact_height (place_in v p) p ≡ before v p
+before_is : (v : Valuation) (p : Rational) → IsValuation v → p.num ≡ pos (clipped p.num) → exact_height (place_in v p) p ≡ before v p
 unfolding before
-before_is v p r e =
-    place_is 0 0 v.ends v.heights p (clipped p.num) e (omega arith)
-    ∙ ap (λ (x : ℕ). ratio (pos x) p.den) (walked_is p.den 0 0 v.ends v.heights (clipped p.num) r (omega arith) ∙ omega arith)
+before_is v p valuation e =
+    ap (λ (place : Place). exact_height place p) (sym (place_in-is v p valuation.same_length))
+    ∙ place_is 0 0 v.ends v.heights p (clipped p.num) e (omega arith)
+    ∙ ap (λ (x : ℕ). ratio (pos x) p.den) (walked_is p.den 0 0 v.ends v.heights (clipped p.num) valuation.rises (omega arith) ∙ omega arith)
 
 height_exact : (place : Place) (p r : Rational) → height_value place p ≡ Fitted r → r ≡ exact_height place p
 height_exact place p r h =
@@ -109,15 +111,15 @@ height_exact place p r h =
     ∙ ap (plus (whole (pos place.base))) (product_in-exact _ _ more.first more.is ∙ ap (times (whole (pos place.height))) (sum_in-exact _ _ wide.first wide.is))
 
 -- the value of [0, p)
-pub value_up_to-exact : (v : Valuation) (p r : Rational) → Rises 0 v.ends → IsAtMost (whole (pos 0)) p → value_up_to v p ≡ Fitted r → r ≡ before v p
-value_up_to-exact v p r rises low h = height_exact (place_in v p) p r h ∙ before_is v p rises (not_clipped p low)
+pub value_up_to-exact : (v : Valuation) (p r : Rational) → IsValuation v → IsAtMost (whole (pos 0)) p → value_up_to v p ≡ Fitted r → r ≡ before v p
+value_up_to-exact v p r valuation low h = height_exact (place_in v p) p r h ∙ before_is v p valuation (not_clipped p low)
 
 pub value_in-exact : ValueIsExact
 value_in-exact v i r valuation order h =
     let upper = next-out _ _ r h in
     let lower = next-out _ _ r upper.then_is in
-    let eu = value_up_to-exact v i.to upper.first valuation.rises (at_most_trans (whole (pos 0)) i.from i.to order.0 order.1) upper.is in
-    let el = value_up_to-exact v i.from lower.first valuation.rises order.0 lower.is in
+    let eu = value_up_to-exact v i.to upper.first valuation (at_most_trans (whole (pos 0)) i.from i.to order.0 order.1) upper.is in
+    let el = value_up_to-exact v i.from lower.first valuation order.0 lower.is in
     sum_in-exact _ _ r lower.then_is ∙ (λ j. minus (eu j) (el j)) ∙ sym (value_is_difference v i valuation.rises order.1)
 
 -- ---- pieces

@@ -13,11 +13,12 @@ use Rattle.slice_num.specs.declared.choice.Side.TheVariants as side
 use Rattle.slice_num.specs.declared.choice.Choice.{Choice}
 use Rattle.slice_num.specs.declared.choice.Choice.TheVariants as choice
 use Rattle.slice_num.proofs.FieldLaws.{below-false, below-not}
-use Rattle.slice_run.specs.Arithmetic.{share_in, cut_point_in, same_as}
+use Rattle.slice_run.specs.Arithmetic.{share_in, cut_point_in, at_most, same_as}
 use Rattle.slice_run.specs.Core.{Tree, Cut, Give, End, is_formed, is_agent}
-use Rattle.slice_run.specs.Exact.{HasShare, IsLeastCut, stretch}
+use Rattle.slice_num.specs.ValueLaws.{stretch}
+use Rattle.slice_run.specs.Exact.{HasShare, IsLeastCut}
 use Rattle.slice_run.specs.Pieces.{Piece, piece_at, before_point, cut_pieces}
-use Rattle.slice_run.specs.Run.{Board, Worth, State, Ending, Done, Stuck, Few, Bad, Many, at_most, is_right, halted, cut_at, cut_on, give_on, run}
+use Rattle.slice_run.specs.Run.{Board, Worth, State, Ending, Done, Stuck, Few, Bad, Many, is_right, halted, cut_at, cut_on, give_on, run}
 use Rattle.slice_run.specs.Shapes.{is_held, AllSingle}
 use Rattle.slice_run.specs.Walk.{Walked, Good, walk_on, Halt, AtEnd, AtCut, walk, valuation_of, stretch_of, worth_of, IsBad}
 use Rattle.slice_run.proofs.Exact.{share_in-exact}
@@ -85,8 +86,8 @@ pub record Sound (agents : ℕ) (tree : Tree) (b : Board) : Type 0 where
 sound_cut : (agents a p l r : ℕ) (amount : Rational) (next : Tree) (b : Board) (i : Interval) (y : Rational) → Sound agents (Cut a p amount l r next) b → piece_at b.pieces p ≡ i ∷ [] → IsAtMost i.from y → IsAtMost y i.to
     → Sound agents next (cut_on a p amount i y b)
 sound_cut agents a p l r amount next b i y s one low high = record {
-  formed = formed_cut agents b.pieces (cut_pieces b.pieces p i y) a p l r amount next i s.formed (y, refl);
-  single = single_cut b.pieces (cut_pieces b.pieces p i y) p i s.single (y, refl);
+  formed = formed_cut agents b.pieces (cut_pieces b.pieces p i y) a p l r amount next i s.formed (y, (low, high), refl);
+  single = single_cut b.pieces (cut_pieces b.pieces p i y) p i s.single (y, (low, high), refl);
   pieces = ordered_cut b.pieces p i y s.pieces one low high;
   shares = s.shares;
 }

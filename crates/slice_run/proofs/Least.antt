@@ -19,8 +19,10 @@ use Rattle.slice_num.proofs.Whole.{whole_num, whole_den}
 use Rattle.slice_num.proofs.FieldLaws.{at_most_ratios, below_ratios, not_both, above_num, order_total, same_rational, at_most_self, at_most_of_same, at_most_trans, at_most_below, weak, plus_least, plus_at_most, plus-minus, minus-plus, minus_same, times_least, times_at_most, times_comm, times-divided, divided-times, whole_at_most}
 use Rattle.slice_num.proofs.Values.{before_grows, value_is_difference, value_of_nothing, value_of_cake, piece_value_one, total_positive}
 use Rattle.slice_run.specs.Arithmetic.{same_as, reached_in, point_of, point_at, whole_value}
-use Rattle.slice_run.specs.Exact.{stretch, HasAmount, HasShare, IsLeastPoint, LeastPointIsExact, CutPointIsExact}
+use Rattle.slice_num.specs.ValueLaws.{stretch}
+use Rattle.slice_run.specs.Exact.{HasAmount, HasShare, IsLeastPoint, LeastPointIsExact, CutPointIsExact}
 use Rattle.slice_run.proofs.Exact.{not_clipped, value_up_to-exact}
+use Rattle.slice_run.proofs.Steps.{reached_in-is}
 use Rattle.slice_run.proofs.Reach.{before_ratio, prefix_most, Found, found, point_exact}
 use Rattle.slice_run.proofs.Walk.{whole_some}
 use Rattle.slice_run.specs.declared.valuation.Place.{Place}
@@ -80,14 +82,14 @@ unfolding before
 before_below v t n d p h = below_ratios (pos (prefix t.den 0 v.ends v.heights (clipped t.num))) (pos n) t.den d (den_pos t) p (omega (arith, ints, h))
 
 -- the point of the step that the walk finds
-reaches_in : (v : Valuation) (target y : Rational) (n : ℕ) → target.num ≡ pos n → Found 0 0 v.ends v.heights target n → point_of v (reached_in v target) target ≡ Fitted y → Reaches v target y
-reaches_in v target y n e f fits =
+reaches_in : (v : Valuation) (target y : Rational) (n : ℕ) → IsValuation v → target.num ≡ pos n → Found 0 0 v.ends v.heights target n → point_of v (reached_in v target) target ≡ Fitted y → Reaches v target y
+reaches_in v target y n valuation e f fits =
     let d = target.den in
     let dp : 0 < d = den_pos target in
     let unit = f.place.height * d in
     let up : 0 < unit = mul-pos f.reached.height_some dp in
     let parts = f.place.start * unit + f.more in
-    let point : y ≡ ratio (pos parts) unit = point_exact f.place target y f.more f.reached.height_some (e ∙ ap pos f.reached.target_is) (ap (λ (o : Option Place). point_of v o target) (sym f.is) ∙ fits) in
+    let point : y ≡ ratio (pos parts) unit = point_exact f.place target y f.more f.reached.height_some (e ∙ ap pos f.reached.target_is) (ap (λ (o : Option Place). point_of v o target) (sym f.is ∙ reached_in-is v target valuation.same_length) ∙ fits) in
     let self : target ≡ ratio (pos n) d = ratio_self target ∙ ap (λ (z : ℤ). ratio z d) e in
     record {
       right = ap (before v) point ∙ before_ratio v parts unit up
@@ -103,13 +105,13 @@ reaches_in v target y n e f fits =
           subst (λ (q : Rational). IsBelow (before v t) q) (sym self) (before_below v t n d dp (omega (arith, less)));
     }
 
-reaches_target : (v : Valuation) (target y : Rational) → Rises 0 v.ends → IsBelow (whole (pos 0)) target → IsAtMost target (whole (pos (total_value v))) → point_of v (reached_in v target) target ≡ Fitted y → Reaches v target y
-reaches_target v target y r low high fits =
+reaches_target : (v : Valuation) (target y : Rational) → IsValuation v → IsBelow (whole (pos 0)) target → IsAtMost target (whole (pos (total_value v))) → point_of v (reached_in v target) target ≡ Fitted y → Reaches v target y
+reaches_target v target y valuation low high fits =
     let n = clipped target.num in
     let e : target.num ≡ pos n = not_clipped target (weak (whole (pos 0)) target low) in
     let some : 0 < n = (let k = above_num target low in omega (arith, ints, subst (λ (z : ℤ). pos 0 <ℤ z) e k)) in
     let most : n ≤ total_value v * target.den = at_most_whole target n (total_value v) e high in
-    reaches_in v target y n e (found 0 0 v.ends v.heights target n e r (omega (arith, some)) (omega (arith, most))) fits
+    reaches_in v target y n valuation e (found 0 0 v.ends v.heights target n e valuation.rises (omega (arith, some)) (omega (arith, most))) fits
 
 -- ---- the least point
 -- the target lies between what is before x and what is before z
@@ -196,7 +198,7 @@ least_point_at v x z amount target y valuation has is fits = by (same_as target 
     by false e =
         let above = above_unless_same (before v x) target b.low e in
         least_in_step v x z amount target y valuation has b above
-        (reaches_target v target y valuation.rises (at_most_below (whole (pos 0)) (before v x) target (before_least v x) above)
+        (reaches_target v target y valuation (at_most_below (whole (pos 0)) (before v x) target (before_least v x) above)
         (at_most_trans target (before v z) (whole (pos (total_value v))) b.high (before_most v z valuation.rises))
         (in_step v x (before v x) target y e fits))
 
@@ -204,7 +206,7 @@ pub least_point_in-least : LeastPointIsExact
 least_point_in-least v x z amount y valuation has fits =
     let lower = next-out _ _ y fits in
     let target = next-out _ _ y lower.then_is in
-    let w : lower.first ≡ before v x = value_up_to-exact v x lower.first valuation.rises has.in_order.0 lower.is in
+    let w : lower.first ≡ before v x = value_up_to-exact v x lower.first valuation has.in_order.0 lower.is in
     least_point_at v x z amount target.first y valuation has (sum_in-exact _ _ target.first target.is ∙ ap (λ (q : Rational). plus q amount) w)
     (ap (λ (q : Rational). point_at v x q target.first) (sym w) ∙ target.then_is)
 

@@ -1,19 +1,18 @@
 -- What is told of the walk is told of the least run, with its share-values.
-use Rattle.std.proofs.Common.{◌≡◌, ◌∙◌, ℕ, zero, suc, ◌<◌, ◌≤◌, ◌++◌, ◌∷◌, List, [], length, map, take, get_or, pos, true, refl, ap, sym, subst, arith, Ok, Err, append_assoc, append-nil}
+use Rattle.std.proofs.Common.{◌≡◌, ◌∙◌, ℕ, zero, suc, ◌<◌, ◌≤◌, ◌++◌, ◌∷◌, List, [], length, map, take, get_or, pos, true, refl, ap, sym, subst, arith, Ok, Err}
 use Rattle.std.specs.List.{All}
 use Rattle.std.specs.Prelude.{IsTrue, IfOk}
 use Rattle.std.specs.declared.result.Result.{Result}
 use Rattle.slice_num.specs.Rational.{Rational, whole}
-use Rattle.slice_num.specs.Fitting.{Fitting, Fitted, Unfit, next}
+use Rattle.slice_num.specs.Fitting.{Fitting, Fitted, Unfit, next-out}
 use Rattle.slice_num.specs.Valuation.{Valuation, IsValuation, share_value, cake}
 use Rattle.slice_num.specs.declared.choice.Side.{Side}
 use Rattle.slice_num.proofs.FieldLaws.{at_most_self, whole_at_most}
 use Rattle.std.proofs.lemmas.Int.{ints}
-use Rattle.slice_run.specs.Arithmetic.{share_in}
 use Rattle.slice_run.specs.Core.{Tree, is_formed}
 use Rattle.slice_run.specs.Pieces.{Piece, joined}
 use Rattle.slice_run.specs.Run.{Board, first_board, Ending, Done, Stuck, Few, Bad, Many, run, start}
-use Rattle.slice_run.specs.Walk.{Walked, Good, Stopped, walk_on, then_walk, Halt, AtEnd, AtCut, walk, row_from, rows_from, values_in, Told, Divided, Halted, tell, least_walk, worth_of, Tells, IsBad, IsLeastRun, TellsValues}
+use Rattle.slice_run.specs.Walk.{Walked, Good, Stopped, walk_on, then_walk, Halt, AtEnd, AtCut, walk, row_in, values_in, Told, Divided, Halted, tell, least_walk, worth_of, Tells, IsBad, IsLeastRun, TellsValues}
 use Rattle.slice_run.specs.Division.{AreDisjoint, MakeUpCake}
 use Rattle.slice_run.specs.RunLaws.{RunsDivide, IsDivision}
 use Rattle.slice_run.specs.Outcomes.{Divides}
@@ -22,28 +21,27 @@ use Rattle.slice_run.proofs.Ordered.{AllOrdered, piece_all, ordered_none}
 use Rattle.slice_run.proofs.Follows.{Sound, Follows, Ends, follows}
 
 -- ---- the share-values
-row_exact : (v : Valuation) (row : List Rational) (shares : List Piece) (r : List Rational) → IsValuation v → AllOrdered shares → row_from v row shares ≡ Fitted r → r ≡ row ++ map (share_value v) shares
-row_exact v row [] r valid h q = let e : row ≡ r = cc in sym e ∙ sym (append-nil row)
-row_exact v row (p ∷ ps) r valid h q = by (share_in v p) refl q (λ x e. row_exact v (row ++ x ∷ []) ps r valid h.1 e)
-  where
-    by : (m : Fitting Rational) → share_in v p ≡ m → next m (λ x. row_from v (row ++ x ∷ []) ps) ≡ Fitted r
-        → ((x : Rational) → row_from v (row ++ x ∷ []) ps ≡ Fitted r → r ≡ (row ++ x ∷ []) ++ map (share_value v) ps) → r ≡ row ++ map (share_value v) (p ∷ ps)
-    by Unfit e k rest = cc
-    by (Fitted x) e k rest =
-        rest x k ∙ append_assoc row (x ∷ []) (map (share_value v) ps)
-        ∙ ap (λ y. row ++ y ∷ map (share_value v) ps) (share_in-exact v p x valid (piece_all p h.0) e)
+row_exact : (v : Valuation) (shares : List Piece) (r : List Rational) → IsValuation v → AllOrdered shares → row_in v shares ≡ Fitted r → r ≡ map (share_value v) shares
+row_exact v [] r valid h q = cc
+row_exact v (p ∷ ps) r valid h q =
+    let one = next-out _ _ r q in
+    let others = next-out _ _ r one.then_is in
+    let first = share_in-exact v p one.first valid (piece_all p h.0) one.is in
+    let rest = row_exact v ps others.first valid h.1 others.is in
+    let all : one.first ∷ others.first ≡ r = (let e = others.then_is in cc) in
+    sym all ∙ (λ i. first i ∷ rest i)
 
-rows_exact : (shares : List Piece) (rows : List (List Rational)) (vs : List Valuation) (rs : List (List Rational)) → All IsValuation vs → AllOrdered shares → rows_from shares rows vs ≡ Fitted rs
-    → rs ≡ rows ++ map (λ v. map (share_value v) shares) vs
-rows_exact shares rows [] rs valid h q = let e : rows ≡ rs = cc in sym e ∙ sym (append-nil rows)
-rows_exact shares rows (v ∷ vs) rs valid h q = by (row_from v [] shares) refl q (λ row e. rows_exact shares (rows ++ row ∷ []) vs rs (λ k d l. valid (suc k) d (omega (arith, l))) h e)
-  where
-    by : (m : Fitting (List Rational)) → row_from v [] shares ≡ m → next m (λ row. rows_from shares (rows ++ row ∷ []) vs) ≡ Fitted rs
-        → ((row : List Rational) → rows_from shares (rows ++ row ∷ []) vs ≡ Fitted rs → rs ≡ (rows ++ row ∷ []) ++ map (λ w. map (share_value w) shares) vs) → rs ≡ rows ++ map (λ w. map (share_value w) shares) (v ∷ vs)
-    by Unfit e k rest = cc
-    by (Fitted row) e k rest =
-        rest row k ∙ append_assoc rows (row ∷ []) (map (λ w. map (share_value w) shares) vs)
-        ∙ ap (λ r. rows ++ r ∷ map (λ w. map (share_value w) shares) vs) (row_exact v [] shares row (valid 0 v (omega arith)) h e)
+rows_exact : (shares : List Piece) (vs : List Valuation) (rs : List (List Rational)) → All IsValuation vs → AllOrdered shares → values_in vs shares ≡ Fitted rs → rs ≡ map (λ v. map (share_value v) shares) vs
+rows_exact shares [] rs valid h q = cc
+rows_exact shares (v ∷ vs) rs valid h q =
+    let later : All IsValuation vs = λ k d l. valid (suc k) d (omega (arith, l)) in
+    let here : IsValuation v = valid 0 v (omega arith) in
+    let one = next-out _ _ rs q in
+    let others = next-out _ _ rs one.then_is in
+    let first = row_exact v shares one.first here h one.is in
+    let rest = rows_exact shares vs others.first later h others.is in
+    let all : one.first ∷ others.first ≡ rs = (let e = others.then_is in cc) in
+    sym all ∙ (λ i. first i ∷ rest i)
 
 -- ---- what is told
 tells_end : (e : Ending) (b : Board) (values : List (List Rational)) → Ends e (AtEnd b) → Tells e (Divided b.queries b.shares (joined b.pieces) values)
@@ -87,7 +85,7 @@ told_halt vs valid tree agents n (AtEnd b) t f q = by (values_in vs b.shares) re
         subst (IsTold vs tree agents n) is
         (record {
           least = record { answers = f.answers; told = tells_end _ b values f.ends; least = f.least };
-          values = rows_exact b.shares [] vs values valid f.ordered e;
+          values = rows_exact b.shares vs values valid f.ordered e;
         })
 told_halt vs valid tree agents n (AtCut at b) t f q =
     let is : Halted b.queries (length b.queries) at ≡ t = cc in

@@ -1,5 +1,6 @@
 pub mod Divides
 pub mod Ends
+pub mod Examples
 pub mod Exact
 pub mod FileSteps
 pub mod Follows
@@ -11,6 +12,8 @@ pub mod PieceLemmas
 pub mod Reach
 pub mod Ready
 pub mod Rows
+pub mod Steps
 pub mod Told
+pub mod Unique
 pub mod Walk
 pub mod Walking

@@ -59,7 +59,7 @@ cut_formed agents unused a p l r amount next h =
 pub formed_cut : (agents : ℕ) (pieces new : List Piece) (a p l r : ℕ) (amount : Rational) (next : Tree) (i : Interval) → IsTrue (is_formed agents (map is_held pieces) (Cut a p amount l r next)) → IsCut pieces p i new
     → IsTrue (is_formed agents (map is_held new) next)
 formed_cut agents pieces new a p l r amount next i h is =
-    subst (λ us. IsTrue (is_formed agents us next)) (sym (ap (map is_held) is.1 ∙ held_cut pieces p i is.0)) (cut_formed agents (map is_held pieces) a p l r amount next h).then_formed
+    subst (λ us. IsTrue (is_formed agents us next)) (sym (ap (map is_held) is.2 ∙ held_cut pieces p i is.0)) (cut_formed agents (map is_held pieces) a p l r amount next h).then_formed
 
 pub give_unused : (agents : ℕ) (unused : List Bool) (a p : ℕ) (next : Tree) → IsTrue (is_formed agents unused (Give p a next)) → IsTrue (is_unused unused p)
 give_unused agents unused a p next h = (both_out _ _ (both_out _ _ h).1).0
@@ -83,7 +83,7 @@ single_two x y e f (suc (suc k)) d h = absurd (omega (arith, h))
 pub single_cut : (pieces new : List Piece) (p : ℕ) (i : Interval) → AllSingle pieces → IsCut pieces p i new → AllSingle new
 unfolding one_or_none
 single_cut pieces new p i h is =
-    subst (λ (ps : List Piece). AllSingle ps) (sym is.1)
+    subst (λ (ps : List Piece). AllSingle ps) (sym is.2)
     (All-append one_or_none (emptied pieces p) ((before_point i is.0 ∷ []) ∷ (after_point i is.0 ∷ []) ∷ []) (single_emptied pieces p h) (single_two (before_point i is.0 ∷ []) (after_point i is.0 ∷ []) refl refl))
 
 pub joined-append : (xs ys : List Piece) → joined (xs ++ ys) ≡ joined xs ++ joined ys
@@ -93,7 +93,7 @@ joined-append (x ∷ xs) ys = ap (λ r. x ++ r) (joined-append xs ys) ∙ sym (a
 pub length-joined-cut : (pieces new : List Piece) (p : ℕ) (i : Interval) → piece_at pieces p ≡ i ∷ [] → IsCut pieces p i new → length (joined new) ≡ length (joined pieces) + 1
 length-joined-cut pieces new p i one is =
     let rest = length-joined-emptied pieces p in
-    let all = ap length (ap joined is.1 ∙ joined-append (emptied pieces p) ((before_point i is.0 ∷ []) ∷ (after_point i is.0 ∷ []) ∷ [])) in
+    let all = ap length (ap joined is.2 ∙ joined-append (emptied pieces p) ((before_point i is.0 ∷ []) ∷ (after_point i is.0 ∷ []) ∷ [])) in
     let both = length-append (joined (emptied pieces p)) (before_point i is.0 ∷ after_point i is.0 ∷ []) in
     let two : length (before_point i is.0 ∷ after_point i is.0 ∷ []) ≡ 2 = omega arith in
     omega (arith, rest, all, both, two, ap length one)

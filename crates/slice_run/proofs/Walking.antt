@@ -1,19 +1,23 @@
 -- Steps of the walk, as the interpreter takes them.
-use Rattle.std.proofs.Common.{◌≡◌, ◌∙◌, ℕ, ◌-◌, ◌∷◌, List, [], length, get_or, pos, false, arith, ap, sym, Ok, Err, OnOk}
+use Rattle.std.proofs.Common.{◌≡◌, ◌∙◌, ℕ, ◌-◌, ◌∷◌, List, [], length, get_or, pos, false, arith, ap, sym, subst, Ok, Err, OnOk}
 use Rattle.std.specs.Prelude.{is_err, slice_get, Option, Some}
 use Rattle.std.proofs.lemmas.Option.{get_or_from_slice_get}
 use Rattle.std.specs.declared.result.Result.{Result}
-use Rattle.slice_num.specs.Rational.{Rational, whole}
+use Rattle.slice_num.specs.Rational.{Rational, whole, IsAtMost}
 use Rattle.slice_num.specs.Fitting.{Fitted, below}
-use Rattle.slice_num.specs.Valuation.{Valuation}
+use Rattle.slice_num.specs.Valuation.{Valuation, share_value}
+use Rattle.slice_num.proofs.FieldLaws.{below-false}
 use Rattle.slice_num.specs.declared.interval.Interval.{Interval}
 use Rattle.slice_run.specs.Arithmetic.{share_in, cut_point_in}
-use Rattle.slice_run.specs.Pieces.{Piece, piece_at}
+use Rattle.slice_run.specs.Exact.{InOrder, HasShare, IsLeastCut}
+use Rattle.slice_run.specs.Pieces.{Piece, IsWithin, piece_at}
 use Rattle.slice_num.specs.declared.choice.Side.{Side}
 use Rattle.slice_run.specs.Core.{Tree, Cut, Give}
 use Rattle.slice_run.specs.Run.{Board, cut_on, give_on}
 use Rattle.slice_run.specs.Walk.{Walked, Halt, walk, walk_cut, valuation_of}
-use Rattle.slice_run.specs.Shapes.{after}
+use Rattle.std.specs.List.{All}
+use Rattle.slice_run.specs.Shapes.{after, AllInOrder}
+use Rattle.slice_run.proofs.Ordered.{piece_all, in_order_at}
 use Rattle.slice_run.specs.Tables.{TableFault}
 use Rattle.slice_run.specs.declared.outcome.RunFault.{RunFault}
 use Rattle.slice_run.specs.declared.outcome.RunFault.TheVariants.{Overflow, Memory}
@@ -56,3 +60,16 @@ walk_faults vs tree next a p l r amount v b f t g h =
 
 pub walk_gives : (vs : List Valuation) (tree next : Tree) (p a : ℕ) (b after_it : Board) → tree ≡ Give p a next → after_it ≡ give_on p a b → walk vs tree b ≡ walk vs next after_it
 walk_gives vs tree next p a b after_it t e = ap (λ (s : Tree). walk vs s b) t ∙ ap (walk vs next) (sym e)
+
+-- the least point of a cut lies in the piece's stretch
+pub point_within : (v : Valuation) (pieces : List Piece) (p : ℕ) (i first : Interval) (stretches : Piece) (held amount y : Rational) → AllInOrder pieces → stretches ≡ piece_at pieces p → piece_at pieces p ≡ i ∷ []
+    → (All InOrder stretches → held ≡ share_value v stretches) → below amount (whole (pos 0)) ≡ false → below held amount ≡ false
+    → ((z : Rational) → HasShare v (get_or stretches 0 first).from z amount → IsLeastCut v (get_or stretches 0 first).from z amount y) → IsWithin y i
+point_within v pieces p i first stretches held amount y ordered was one exact low high least =
+    let order : InOrder i = in_order_at pieces p i ordered one in
+    let same : stretches ≡ i ∷ [] = was ∙ one in
+    let each : All InOrder stretches = subst (λ (ps : Piece). All InOrder ps) (sym same) (piece_all (i ∷ []) (order, tt)) in
+    let most : IsAtMost amount (share_value v (i ∷ [])) = subst (λ (q : Rational). IsAtMost amount q) (exact each ∙ ap (share_value v) same) (below-false held amount high) in
+    let there : get_or stretches 0 first ≡ i = ap (λ (ps : Piece). get_or ps 0 first) same in
+    let cut = subst (λ (j : Interval). (z : Rational) → HasShare v j.from z amount → IsLeastCut v j.from z amount y) there least i.to (record { in_order = order; low = below-false amount (whole (pos 0)) low; high = most }) in
+    (cut.after, cut.within)

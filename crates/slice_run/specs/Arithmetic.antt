@@ -1,5 +1,6 @@
--- The numbers that the queries of a run make, in their order. A query is refused exactly where one of them doesn't fit.
-use Rattle.std.specs.Prelude.{ℕ, ◌+◌, ◌-◌, ◌*◌, ◌&&◌, Bool, true, false, pos, List, [], ◌∷◌, Option, Some, None, if◌then◌else◌}
+-- The numbers that the queries of a run make, in the order in which they are made. A query is refused exactly where one of them doesn't fit.
+use Rattle.std.specs.Prelude.{ℕ, ◌+◌, ◌&&◌, Bool, true, false, pos, List, [], ◌∷◌, length, take, slice_index_or, find, option_map, Option, Some, None, if◌then◌else◌}
+use Rattle.std.specs.List.{position_or_len, range_with_len}
 use Rattle.std.specs.Ordering.{int_eq}
 use Rattle.slice_num.specs.Rational.{Rational, whole}
 use Rattle.slice_num.specs.Fitting.{Fitting, Fitted, next, sum_in, product_in, difference_in, quotient_in, below}
@@ -7,19 +8,45 @@ use Rattle.slice_num.specs.Valuation.{Valuation, cake_length, total_value}
 use Rattle.slice_num.specs.declared.interval.Interval.{Interval}
 use Rattle.slice_run.specs.declared.valuation.Place.{Place}
 
--- the first step whose end is at least p: what the steps before it are worth, where it begins, its height
-abbrev pub place_from : ℕ → ℕ → List ℕ → List ℕ → Rational → Place
-place_from base start [] hs p = record { base = base; start = start; height = 0 }
-place_from base start (e ∷ es) [] p = record { base = base; start = start; height = 0 }
-place_from base start (e ∷ es) (h ∷ hs) p =
-    if below (whole (pos e)) p then place_from (base + h * (e - start)) e es hs p
-    else record { base = base; start = start; height = h }
+-- a is at most b
+abbrev pub at_most : Rational → Rational → Bool
+at_most a b = if below b a then false else true
 
--- the step of a valuation in which the point p lies
-abbrev pub place_in : Valuation → Rational → Place
-place_in v p = place_from 0 0 v.ends v.heights p
+-- a is b
+abbrev pub same_as : Rational → Rational → Bool
+same_as a b = int_eq a.num b.num && int_eq (pos a.den) (pos b.den)
 
--- what [0, p) is worth, for a point of that step: the difference, the product, the sum
+-- ---- the steps of a valuation, counted from 0
+-- the first k steps
+abbrev pub front : ℕ → Valuation → Valuation
+front k v = record { ends = take k v.ends; heights = take k v.heights }
+
+-- the base of step k: what the steps before it are worth
+abbrev pub base_of : Valuation → ℕ → ℕ
+base_of v k = total_value (front k v)
+
+-- step k: its base, where it starts (at the end of the step before, or at 0), and its height
+abbrev pub step_of : Valuation → ℕ → Place
+step_of v k = record { base = base_of v k; start = cake_length (front k v); height = slice_index_or v.heights k 0 }
+
+-- the step in which the point p lies: the first whose end is at least p. What comes after the last step has height 0
+unfoldable pub place_in : Valuation → Rational → Place
+place_in v p = step_of v (position_or_len (λ e. at_most p (whole (pos e))) v.ends)
+
+-- the target lies above the first of the two values, and not above the second
+abbrev pub reaches : ℕ → ℕ → Rational → Bool
+reaches base top target = below (whole (pos base)) target && at_most target (whole (pos top))
+
+-- the value from 0 comes up to the target in step k: its base is below the target, and its base plus its own value, which is the base of the next step, is not
+abbrev pub comes_up : Valuation → Rational → ℕ → Bool
+comes_up v target k = reaches (base_of v k) (base_of v (k + 1)) target
+
+-- the first step in which the value from 0 comes up to the target
+unfoldable pub reached_in : Valuation → Rational → Option Place
+reached_in v target = option_map (step_of v) (find (comes_up v target) (range_with_len 0 (length v.ends)))
+
+-- ---- what lies before a point
+-- what [0, p) is worth, for a point of that step: the difference, the product, the sum, in this order
 abbrev pub height_value : Place → Rational → Fitting Rational
 height_value place p =
     next (difference_in p (whole (pos place.start))) (λ wide.
@@ -30,14 +57,14 @@ height_value place p =
 abbrev pub value_up_to : Valuation → Rational → Fitting Rational
 value_up_to v p = height_value (place_in v p) p
 
--- what the stretch is worth: up to its end, up to its beginning, the difference
+-- what the stretch is worth: up to its end, up to its beginning, the difference, in this order
 abbrev pub value_in : Valuation → Interval → Fitting Rational
 value_in v i =
     next (value_up_to v i.to) (λ upper.
     next (value_up_to v i.from) (λ lower.
     difference_in upper lower))
 
--- the sum so far and the stretches that follow
+-- the values of the stretches added to a sum, one after another: the order of the sums decides whether they fit
 abbrev pub values_from : Valuation → Rational → List Interval → Fitting Rational
 values_from v sum [] = Fitted sum
 values_from v sum (i ∷ is) =
@@ -57,27 +84,8 @@ whole_value v = whole (pos (total_value v))
 abbrev pub share_in : Valuation → List Interval → Fitting Rational
 share_in v piece = next (piece_value_in v piece) (λ sum. quotient_in sum (whole_value v))
 
--- a is b
-abbrev pub same_as : Rational → Rational → Bool
-same_as a b = int_eq a.num b.num && int_eq (pos a.den) (pos b.den)
-
--- the target lies above the first of the two values, and not above the second
-abbrev pub reaches : ℕ → ℕ → Rational → Bool
-reaches base top target = if below (whole (pos base)) target then (if below (whole (pos top)) target then false else true) else false
-
--- the first step in which the value from 0 comes up to the target
-abbrev pub reached_from : ℕ → ℕ → List ℕ → List ℕ → Rational → Option Place
-reached_from base start [] hs target = None
-reached_from base start (e ∷ es) [] target = None
-reached_from base start (e ∷ es) (h ∷ hs) target =
-    if reaches base (base + h * (e - start)) target then Some (record { base = base; start = start; height = h })
-    else reached_from (base + h * (e - start)) e es hs target
-
--- the same from the start of the cake
-abbrev pub reached_in : Valuation → Rational → Option Place
-reached_in v target = reached_from 0 0 v.ends v.heights target
-
--- the point of a step at which the value from 0 is the target: the difference, the quotient, the sum
+-- ---- the least point that cuts off a value
+-- the point of a step at which the value from 0 is the target: the difference, the quotient, the sum, in this order
 abbrev pub point_in : Place → Rational → Fitting Rational
 point_in place target =
     next (difference_in target (whole (pos place.base))) (λ more.

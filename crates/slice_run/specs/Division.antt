@@ -4,7 +4,8 @@ use Rattle.slice_num.specs.Rational.{Rational, whole, IsBelow, IsAtMost}
 use Rattle.slice_num.specs.Fitting.{below}
 use Rattle.slice_num.specs.declared.interval.Interval.{Interval}
 use Rattle.slice_run.specs.Pieces.{Piece, joined, piece_at}
-use Rattle.slice_run.specs.Run.{Worth, at_most}
+use Rattle.slice_run.specs.Arithmetic.{at_most}
+use Rattle.slice_run.specs.Run.{Worth}
 
 -- the point lies in the stretch, which has its beginning and not its end
 abbrev pub lies_in : Rational → Interval → Bool

@@ -4,12 +4,9 @@ use Rattle.std.specs.List.{All}
 use Rattle.slice_num.specs.Rational.{Rational, whole, IsBelow, IsAtMost}
 use Rattle.slice_num.specs.Fitting.{Fitted}
 use Rattle.slice_num.specs.Valuation.{Valuation, IsValuation, value, share_value}
+use Rattle.slice_num.specs.ValueLaws.{stretch}
 use Rattle.slice_num.specs.declared.interval.Interval.{Interval}
 use Rattle.slice_run.specs.Arithmetic.{value_in, share_in, least_point_in, cut_point_in}
-
--- the stretch [x, y)
-abbrev pub stretch : Rational → Rational → Interval
-stretch x y = record { from = x; to = y }
 
 -- the ends of a stretch stand in order, from 0 on
 abbrev pub InOrder : Interval → Type 0

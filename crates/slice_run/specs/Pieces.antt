@@ -1,6 +1,6 @@
 -- Pieces of the cake, and what a run keeps of them.
 use Rattle.std.specs.Prelude.{ℕ, List, [], ◌∷◌, ◌++◌, ◌-◌, length, slice_set, slice_index_or, Option, Some, None}
-use Rattle.slice_num.specs.Rational.{Rational}
+use Rattle.slice_num.specs.Rational.{Rational, IsAtMost}
 use Rattle.slice_num.specs.declared.interval.Interval.{Interval}
 
 -- a piece is a list of stretches
@@ -29,6 +29,10 @@ given shares a piece = slice_set shares a (piece_at shares a ++ piece)
 abbrev pub joined : List Piece → Piece
 joined [] = []
 joined (x ∷ xs) = x ++ joined xs
+
+-- the point lies in the stretch, or at one of its ends
+abbrev pub IsWithin : Rational → Interval → Type 0
+IsWithin y i = IsAtMost i.from y × IsAtMost y i.to
 
 -- the part of a stretch before the point
 abbrev pub before_point : Interval → Rational → Interval

@@ -1,5 +1,5 @@
 -- The run of a core with a list of answers: what the queries of Robertson and Webb come to, whoever answers the cuts.
-use Rattle.std.specs.Prelude.{ℕ, ◌-◌, ◌&&◌, pos, Bool, true, false, if◌then◌else◌, List, [], ◌∷◌, ◌++◌, length, replicate}
+use Rattle.std.specs.Prelude.{ℕ, ◌-◌, ◌&&◌, pos, Bool, if◌then◌else◌, List, [], ◌∷◌, ◌++◌, length, replicate}
 use Rattle.slice_num.specs.Rational.{Rational, whole}
 use Rattle.slice_num.specs.Fitting.{below}
 use Rattle.slice_num.specs.Valuation.{cake}
@@ -8,7 +8,7 @@ use Rattle.slice_num.specs.declared.choice.Side.{Side}
 use Rattle.slice_num.specs.declared.choice.Side.TheVariants as side
 use Rattle.slice_num.specs.declared.choice.Choice.{Choice}
 use Rattle.slice_num.specs.declared.choice.Choice.TheVariants as choice
-use Rattle.slice_run.specs.Arithmetic.{same_as}
+use Rattle.slice_run.specs.Arithmetic.{at_most, same_as}
 use Rattle.slice_run.specs.Core.{Tree, Cut, Give, End}
 use Rattle.slice_run.specs.Pieces.{Piece, piece_at, emptied, given, before_point, cut_pieces}
 use Rattle.slice_run.specs.declared.outcome.Query.{Query}
@@ -64,10 +64,6 @@ ended e (y ∷ ys) = Many
 -- a run that is stuck at that side, and its last choice
 abbrev pub halted : Side → Choice → State → Ending
 halted at last s = ended (Stuck at (record { board = s.board; answers = s.answers; trace = s.trace ++ last ∷ [] })) s.answers
-
--- a is at most b
-abbrev pub at_most : Rational → Rational → Bool
-at_most a b = if below b a then false else true
 
 -- the point lies in the stretch, and what lies before it is worth the amount
 abbrev pub is_right : (Piece → Rational) → Interval → Rational → Rational → Bool

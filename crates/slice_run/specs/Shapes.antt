@@ -4,7 +4,8 @@ use Rattle.std.specs.List.{All}
 use Rattle.slice_num.specs.declared.choice.Side.{Side}
 use Rattle.slice_num.specs.Rational.{Rational}
 use Rattle.slice_num.specs.declared.interval.Interval.{Interval}
-use Rattle.slice_run.specs.Pieces.{Piece, cut_pieces}
+use Rattle.slice_run.specs.Exact.{InOrder}
+use Rattle.slice_run.specs.Pieces.{Piece, IsWithin, cut_pieces}
 use Rattle.slice_run.specs.Run.{Board}
 use Rattle.slice_run.specs.Walk.{Walked, Good, Halt, AtCut}
 
@@ -22,6 +23,10 @@ is_held (i ∷ is) = true
 abbrev pub AllSingle : List Piece → Type 0
 AllSingle pieces = All (λ (p : Piece). length p ≤ 1) pieces
 
--- the piece of that number, of the stretch i, was cut at some point
+-- the ends of all stretches stand in order, from 0 on
+abbrev pub AllInOrder : List Piece → Type 0
+AllInOrder pieces = All (λ (p : Piece). All InOrder p) pieces
+
+-- the piece of that number, of the stretch i, was cut at some point of it
 abbrev pub IsCut : List Piece → ℕ → Interval → List Piece → Type 0
-IsCut old p i new = (y : Rational) × (new ≡ cut_pieces old p i y)
+IsCut old p i new = (y : Rational) × IsWithin y i × (new ≡ cut_pieces old p i y)

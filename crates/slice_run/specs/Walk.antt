@@ -56,19 +56,15 @@ walk vs (Cut a p amount l r next) b = walk_cut (valuation_of vs a) a p amount (w
 walk vs (Give p a next) b = walk vs next (give_on p a b)
 walk vs End b = Good (AtEnd b)
 
--- an agent's share-values of all shares, after those so far
-abbrev pub row_from : Valuation → List Rational → List Piece → Fitting (List Rational)
-row_from v row [] = Fitted row
-row_from v row (p ∷ ps) = next (share_in v p) (λ x. row_from v (row ++ x ∷ []) ps)
+-- an agent's share-values of all shares, in their order
+abbrev pub row_in : Valuation → List Piece → Fitting (List Rational)
+row_in v [] = Fitted []
+row_in v (p ∷ ps) = next (share_in v p) (λ x. next (row_in v ps) (λ xs. Fitted (x ∷ xs)))
 
--- the rows of the agents in order, after those so far
-abbrev pub rows_from : List Piece → List (List Rational) → List Valuation → Fitting (List (List Rational))
-rows_from shares rows [] = Fitted rows
-rows_from shares rows (v ∷ vs) = next (row_from v [] shares) (λ row. rows_from shares (rows ++ row ∷ []) vs)
-
--- each agent's share-values of all shares
+-- each agent's share-values of all shares, agent by agent
 abbrev pub values_in : List Valuation → List Piece → Fitting (List (List Rational))
-values_in vs shares = rows_from shares [] vs
+values_in [] shares = Fitted []
+values_in (v ∷ vs) shares = next (row_in v shares) (λ row. next (values_in vs shares) (λ rows. Fitted (row ∷ rows)))
 
 -- what is told of a run: the queries, the shares, what is left and each agent's share-values of all shares; or the
 -- queries, the number of the query that is stuck and its side

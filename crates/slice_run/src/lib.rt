@@ -20,7 +20,7 @@ mod values;
 
 pub use book::Book;
 pub use core_tree::{Core, Node};
-pub use laws::runs_divide_the_cake;
+pub use laws::{least_runs_are_unique, runs_divide_the_cake};
 pub use outcome::{Finish, Outcome, Query, QueryKind, RunFault};
 pub use piece::{Back, Piece};
 pub use run::run_least;

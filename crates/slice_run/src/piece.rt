@@ -2,7 +2,7 @@
 ghost use Rattle.std.specs.Prelude.{◌≡◌, ℕ, ◌+◌, ◌-◌, ◌<◌, ◌≤◌, List, [], ◌∷◌, ◌++◌, length, IfOk, IfErr, OnOk, OnErr};
 ghost use Rattle.slice_num.specs.Valuation.{cake};
 ghost use Rattle.slice_num.specs.declared.interval.Interval.{Interval};
-ghost use Rattle.slice_run.specs.Pieces.{given, before_point, after_point};
+ghost use Rattle.slice_run.specs.Pieces.{given, before_point, after_point, IsWithin};
 
 use crate::book::Book;
 use slice_num::{Frac, Interval, Memory};
@@ -51,10 +51,11 @@ impl Piece {
         self.intervals.as_slice()
     }
 
-    /// Cuts a piece of one stretch `[x, z)` at the point y: into `[x, y)` and `[y, z)`. A part may be empty, and is then a
-    /// stretch whose ends are one point. `Err` comes only for want of memory.
+    /// Cuts a piece of one stretch `[x, z)` at the point y, which lies in it or at one of its ends: into `[x, y)` and
+    /// `[y, z)`. A part may be empty, and is then a stretch whose ends are one point. `Err` comes only for want of memory.
     pub fn cut(self, y: &Frac) -> Result<(Piece, Piece), Back>
         requires one { length self ≡ 1 }
+        requires within { (i : Interval) → self ≡ i ∷ [] → IsWithin y.now i }
         ensures left { (i : Interval) → self ≡ i ∷ []
             → IfOk result (λ parts. parts.0 ≡ before_point i y.now ∷ []) }
         ensures right { (i : Interval) → self ≡ i ∷ []

@@ -3,7 +3,7 @@ ghost use Rattle.std.specs.Prelude.{◌≡◌, ℕ, ◌+◌, ◌-◌, ◌<◌, �
 ghost use Rattle.slice_num.specs.Valuation.{cake};
 ghost use Rattle.slice_num.specs.declared.interval.Interval.{Interval};
 ghost use Rattle.std.specs.Vec.{vec_capacity};
-ghost use Rattle.slice_run.specs.Pieces.{held, piece_at, emptied, given, joined, cut_pieces, with_rest};
+ghost use Rattle.slice_run.specs.Pieces.{held, piece_at, emptied, given, joined, cut_pieces, with_rest, IsWithin};
 
 use crate::book::Book;
 use crate::piece::{Back, Piece};
@@ -57,10 +57,11 @@ impl Pieces {
         }
     }
 
-    /// Cuts the piece of that number, which is one stretch, at the point; its two parts get the next numbers.
+    /// Cuts the piece of that number, which is one stretch, at a point of it; its two parts get the next numbers.
     /// Where memory is wanted the piece is left.
     pub(crate) fn cut(&mut self, number: usize, y: &Frac, book: &mut Book) -> Result<(), Memory>
         requires one { length (piece_at self.old number) ≡ 1 }
+        requires within { (i : Interval) → piece_at self.old number ≡ i ∷ [] → IsWithin y.now i }
         requires room { length (joined self.old) ≤ book.old.spare }
         ensures ok { (i : Interval) → piece_at self.old number ≡ i ∷ []
             → OnOk result (self.new ≡ cut_pieces self.old number i y.now) }

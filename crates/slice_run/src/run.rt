@@ -6,7 +6,7 @@ ghost use Rattle.slice_run.specs.Pieces.{joined};
 ghost use Rattle.slice_run.specs.Walk.{Good, walk, least_outcome, length_of, IsLeastRunOf, TellsValues};
 ghost use Rattle.slice_run.specs.Cores.{core_of};
 ghost use Rattle.slice_run.specs.Outcomes.{told_of, FaultIs, Divides};
-ghost use Rattle.slice_run.specs.Shapes.{is_held, AllSingle};
+ghost use Rattle.slice_run.specs.Shapes.{is_held, AllSingle, AllInOrder};
 ghost use Rattle.slice_run.specs.Tables.{board_of, TableFault, halt_of, tell_left};
 
 use crate::book::Book;
@@ -23,6 +23,7 @@ fn walk(root: &Node, valuations: &Valuations, table: &mut Table) -> Result<Stop,
     requires formed { IsTrue
         (is_formed (length valuations.now) (map is_held table.old.pieces) (tree_of root.now)) }
     requires single { AllSingle table.old.pieces }
+    requires ordered { AllInOrder table.old.pieces }
     requires room { length (joined table.old.pieces) + cuts (tree_of root.now) ≤ table.old.book.spare }
     requires shares { length table.old.book.shares ≡ length valuations.now }
     requires few { length table.old.queries.items + cuts (tree_of root.now) ≤ 64 }

@@ -4,7 +4,7 @@ ghost use Rattle.slice_num.specs.Fitting.{below};
 ghost use Rattle.slice_run.specs.Pieces.{piece_at, joined};
 ghost use Rattle.slice_run.specs.Run.{Board, give_on};
 ghost use Rattle.slice_run.specs.Walk.{Walked, Halt, walk_cut};
-ghost use Rattle.slice_run.specs.Shapes.{after, IsCut};
+ghost use Rattle.slice_run.specs.Shapes.{after, IsCut, AllInOrder};
 ghost use Rattle.slice_num.specs.declared.interval.Interval.{Interval};
 
 use crate::book::Book;
@@ -33,6 +33,7 @@ impl Table {
         amount: &Frac,
     ) -> Result<Option<Side>, RunFault>
         requires one { length (piece_at self.old.pieces piece) ≡ 1 }
+        requires ordered { AllInOrder self.old.pieces }
         requires room { length (joined self.old.pieces) ≤ self.old.book.spare }
         requires few { length self.old.queries.items < 2 ^ 32 }
         ensures ok { IfOk result (λ o. (go : Board → Walked Halt)

@@ -41,7 +41,7 @@ fn is_just(piece: &Piece, stretch: Interval) -> bool {
 // A cake of length 4 is cut at 3/2; the left part is left, and the right part is given to agent 2.
 #[test]
 fn spends_pieces(rt: HostRuntime) -> Result<(), Fail> {
-    let y = frac((3, 2))?;
+    let y = Frac::new(3, 2)?;
     let cake = stretch((0, 1), (4, 1))?;
     let before = stretch((0, 1), (3, 2))?;
     let after = stretch((3, 2), (4, 1))?;

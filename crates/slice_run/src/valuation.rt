@@ -4,9 +4,10 @@ ghost use Rattle.std.specs.List.{All};
 ghost use Rattle.slice_num.specs.Rational.{Rational};
 ghost use Rattle.slice_num.specs.Fitting.{fitting_of, below};
 ghost use Rattle.slice_num.specs.Valuation.{cake_length, last_end, total_value, value, share_value};
+ghost use Rattle.slice_num.specs.ValueLaws.{stretch};
 ghost use Rattle.slice_run.specs.ValuationShape.{steps, IsSmallValuation, IsSmallList};
 ghost use Rattle.slice_run.specs.Arithmetic.{place_in, height_value, value_up_to, value_in, piece_value_in, share_in, reaches, reached_in, point_in, point_of, point_at, least_point_in, cut_point_in};
-ghost use Rattle.slice_run.specs.Exact.{stretch, InOrder, HasAmount, HasShare, IsLeastPoint, IsLeastCut, ValueIsExact, ShareIsExact, LeastPointIsExact, CutPointIsExact};
+ghost use Rattle.slice_run.specs.Exact.{InOrder, HasAmount, HasShare, IsLeastPoint, IsLeastCut, ValueIsExact, ShareIsExact, LeastPointIsExact, CutPointIsExact};
 
 use slice_num::{Frac, Interval, NoFit};
 use std::cmp::Ordering;

@@ -1,4 +1,4 @@
-use Rattle.std.proofs.Common.{◌≡◌, ◌∙◌, ◌<◌, ◌++◌, [], length, replicate, sym, ap, arith}
+use Rattle.std.proofs.Common.{◌≡◌, ◌∙◌, ◌<◌, ◌++◌, [], length, replicate, sym, ap, subst, arith}
 use Rattle.slice_run.specs.Nodes.{tree_of}
 use Rattle.slice_run.specs.Pieces.{joined}
 use Rattle.slice_run.specs.Run.{Board, first_board}
@@ -9,7 +9,12 @@ use Rattle.slice_run.specs.declared.outcome.Outcome.{Outcome}
 use Rattle.slice_run.proofs.Divides.{runs_divide}
 use Rattle.slice_run.proofs.LeastRun.{least_run, told_divides, if_ok_then}
 use Rattle.slice_run.proofs.Told.{on_ok_is, if_ok_is, ok_along, err_along, told_whole, first_fault}
+use Rattle.slice_run.specs.Shapes.{AllInOrder}
+use Rattle.slice_run.proofs.Ordered.{cake_in_order}
 use Rattle.slice_run.proofs.run.run_least.Goals as goal
+
+pub walk-stop-requires-clause-ordered : goal.walk-stop-requires-clause-ordered
+walk-stop-requires-clause-ordered c = subst AllInOrder (sym c.in-Ok-start.ensures) (cake_in_order c.length.result)
 
 pub finish-requires-clause-shares : goal.finish-requires-clause-shares
 finish-requires-clause-shares c =

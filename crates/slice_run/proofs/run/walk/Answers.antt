@@ -4,7 +4,7 @@ use Rattle.slice_run.specs.Nodes.{tree_of}
 use Rattle.slice_run.specs.Core.{Tree, is_formed}
 use Rattle.slice_run.specs.Core as core
 use Rattle.slice_run.specs.Pieces.{Piece, joined, piece_at, emptied}
-use Rattle.slice_run.specs.Shapes.{is_held, IsCut, AllSingle}
+use Rattle.slice_run.specs.Shapes.{is_held, IsCut, AllSingle, AllInOrder}
 use Rattle.slice_run.specs.Tables.{board_of}
 use Rattle.slice_run.specs.Walk.{walk}
 use Rattle.std.proofs.Math.ListN.{length-set}
@@ -12,6 +12,7 @@ use Rattle.slice_run.proofs.PieceLemmas.{length-joined-emptied}
 use Rattle.slice_run.proofs.NodeLaws.{tree_of-Cut, tree_of-Give}
 use Rattle.slice_run.proofs.Walking.{walk_goes, walk_faults, walk_gives, fault_along}
 use Rattle.slice_run.proofs.Ready.{one_stretch, cut_formed, formed_cut, formed_give, give_unused, single_cut, single_emptied, length-joined-cut}
+use Rattle.slice_run.proofs.Ordered.{in_order_cut, in_order_emptied}
 use Rattle.slice_run.proofs.run.walk.Goals as goal
 
 pub loop-node-preserved-in-Ok-None : goal.loop-node-preserved-in-Ok-None
@@ -31,6 +32,7 @@ loop-node-preserved-in-Ok-None c =
       rest = sym (step ∙ ap (λ (t : Tree). walk vs t (board_of c.cut.new.self)) next) ∙ c.loop-node.invariant.rest;
       formed = subst (λ (t : Tree). IsTrue (is_formed (length vs) (map is_held c.cut.new.self.pieces) t)) next (formed_cut (length vs) c.loop-node.table.pieces c.cut.new.self.pieces a p c.in-Cut.left c.in-Cut.right c.in-Cut.amount (tree_of c.in-Cut.next) one.0 formed cut);
       single = single_cut c.loop-node.table.pieces c.cut.new.self.pieces p one.0 c.loop-node.invariant.single cut;
+      ordered = in_order_cut c.loop-node.table.pieces c.cut.new.self.pieces p one.0 c.loop-node.invariant.ordered one.1 cut;
       room = omega (arith, more, ap core.cuts tree, ap core.cuts next, ap (λ b. b.spare) book, c.loop-node.invariant.room);
       shares = ap (λ b. length b.shares) book ∙ c.loop-node.invariant.shares;
       few = omega (arith, c.in-Ok-None.ensures.queries, ap core.cuts tree, ap core.cuts next, c.loop-node.invariant.few);
@@ -85,6 +87,7 @@ loop-node-preserved c =
       rest = sym (step ∙ ap (λ (t : Tree). walk vs t (board_of c.give.new.self)) next) ∙ c.loop-node.invariant.rest;
       formed = subst (λ (t : Tree). IsTrue (is_formed (length vs) (map is_held c.give.new.self.pieces) t)) next (subst (λ (ps : List Piece). IsTrue (is_formed (length vs) (map is_held ps) (tree_of c.in-Give.next))) (sym pieces) (formed_give (length vs) c.loop-node.table.pieces a p (tree_of c.in-Give.next) formed));
       single = subst (λ (ps : List Piece). AllSingle ps) (sym pieces) (single_emptied c.loop-node.table.pieces p c.loop-node.invariant.single);
+      ordered = subst AllInOrder (sym pieces) (in_order_emptied c.loop-node.table.pieces p c.loop-node.invariant.ordered);
       room = omega (arith, ap (λ ps. length (joined ps)) pieces, length-joined-emptied c.loop-node.table.pieces p, ap core.cuts tree, ap core.cuts next, c.in-Ok.ensures.spare, c.loop-node.invariant.room);
       shares = ap (λ b. length b.shares) board ∙ length-set c.loop-node.table.book.shares (a - 1) (piece_at c.loop-node.table.book.shares (a - 1) ++ piece_at c.loop-node.table.pieces p) ∙ c.loop-node.invariant.shares;
       few = omega (arith, ap (λ q. length q.items) c.in-Ok.ensures.queries, ap core.cuts tree, ap core.cuts next, c.loop-node.invariant.few);

@@ -7,7 +7,7 @@ use Rattle.slice_run.specs.Arithmetic.{share_in, cut_point_in}
 use Rattle.slice_run.specs.Pieces.{piece_at, cut_pieces}
 use Rattle.slice_run.specs.Run.{cut_on}
 use Rattle.slice_run.specs.Tables.{board_of}
-use Rattle.slice_run.proofs.Walking.{single_is, walk_cut-passed, on_ok}
+use Rattle.slice_run.proofs.Walking.{single_is, walk_cut-passed, on_ok, point_within}
 use Rattle.slice_run.proofs.table.Table.cut.Goals as goal
 
 pub returns-clause-ok : goal.returns-clause-ok
@@ -30,4 +30,15 @@ returns-clause-ok c go =
 
 pub returns-clause-pieces : goal.returns-clause-pieces
 returns-clause-pieces c i one =
-    (c.in-Ok-cut_point.y, on_ok c.cut.result _ (sym c.is_err-2.ensures.value ∙ c.if-is_err-2.false) (c.cut.ensures.ok i one))
+    let low : below c.args.amount.now (whole (pos 0)) ≡ false = ap (below c.args.amount.now) (sym c.whole.ensures) ∙ sym c.is_below.ensures ∙ c.if-is_below.false in
+    let high : below c.in-Ok.held c.args.amount.now ≡ false = sym c.is_below-2.ensures ∙ c.if-is_below-2.false in (
+      c.in-Ok-cut_point.y,
+      point_within c.args.valuation.now c.args.self.now.pieces c.args.piece i c.index-stretches-0.result c.stretches-stretches.result.now c.in-Ok.held c.args.amount.now c.in-Ok-cut_point.y c.requires.ordered c.stretches-stretches.ensures one c.in-Ok.ensures.exact low high c.in-Ok-cut_point.ensures.least,
+      on_ok c.cut.result _ (sym c.is_err-2.ensures.value ∙ c.if-is_err-2.false) (c.cut.ensures.ok i one),
+    )
+
+pub cut-requires-clause-within : goal.cut-requires-clause-within
+cut-requires-clause-within c i one =
+    let low : below c.args.amount.now (whole (pos 0)) ≡ false = ap (below c.args.amount.now) (sym c.whole.ensures) ∙ sym c.is_below.ensures ∙ c.if-is_below.false in
+    let high : below c.in-Ok.held c.args.amount.now ≡ false = sym c.is_below-2.ensures ∙ c.if-is_below-2.false in
+    point_within c.args.valuation.now c.args.self.now.pieces c.args.piece i c.index-stretches-0.result c.stretches-stretches.result.now c.in-Ok.held c.args.amount.now c.in-Ok-cut_point.y c.requires.ordered c.stretches-stretches.ensures one c.in-Ok.ensures.exact low high c.in-Ok-cut_point.ensures.least
