@@ -1,0 +1,11 @@
+pub mod Bytes
+pub mod Fronts
+pub mod Turns
+pub mod Steps
+pub mod Gaps
+pub mod Nexts
+pub mod Unique
+pub mod Spelled
+pub mod Places
+pub mod Answered
+pub mod Exists
