@@ -1,0 +1,11 @@
+pub mod Code
+pub mod View
+pub mod Tokens
+pub mod Taking
+pub mod Layout
+pub mod Paging
+pub mod Spellable
+pub mod Limits
+pub mod Places
+pub mod Laws
+pub mod Bare
