@@ -1,0 +1,11 @@
+pub mod Combinators
+pub mod Lexemes
+pub mod Rules
+pub mod Reads
+pub mod Views
+pub mod Limits
+pub mod Begins
+pub mod Parsing
+pub mod Classes
+pub mod Told
+pub mod Laws
