@@ -1,35 +1,15 @@
--- The core of a plain program is well formed, and its run is the program's.
+-- The core of a plain program is well formed.
 use Rattle.std.proofs.Common.{◌≡◌, ℕ, suc, ◌+◌, Bool, true, false, not, ◌||◌, List, [], ◌∷◌, ◌++◌, map, Option, length, sym, refl, ap, ◌∙◌, subst, ⊎_elim, append-nil, arith}
 use Rattle.std.specs.Prelude.{codes, bytes_eq, cond, ◌⊎◌, slice_set, slice_index_or, count_by, flat_map}
 use Rattle.std.proofs.lemmas.Bool.{cases_Bool, cond-true, cond-false, true≢false, or_parts, or_from, or_cases, and_parts, and_from, eq-eqb, not-true, not_from_false, not_from_true, false_from_ne_true}
 use Rattle.std.proofs.lemmas.Slice.Eq.{bytes_eq-Decides}
 use Rattle.std.proofs.lemmas.List.Sums.{sum_by-cons}
 use Rattle.slice_num.specs.Name.{is_among}
-use Rattle.slice_num.specs.Rational.{Rational}
 use Rattle.slice_run.specs.Core.{is_formed, is_agent, is_unused, used, size, cuts, IsWellFormed}
-use Rattle.slice_run.specs.Run.{Worth, State, Ending, cut_at, give_on, run}
 use Rattle.slice_top.specs.PlainProgram.{PlainStatement, Cut, Give, PlainProgram, used_by, bound_by, names_bound, AreDifferent, is_cut, IsPlainProgram}
 use Rattle.slice_top.specs.PlainUse.{may_follow, all_follow, binds_new}
-use Rattle.slice_top.specs.PlainRun.{place_of, amount_of, run_body, run_program, tree_from, core_of_program}
+use Rattle.slice_top.specs.PlainCore.{place_of, tree_from, core_of_program}
 use Rattle.slice_top.proofs.SingleUse.{among_append, other_way, bound_append, used_append, MayFollow, follow_parts, one_more, SoFar, range_is, single_use_from}
-
--- ---- the run
-
--- two ways to go on that agree make two cuts that agree
-cut_same : (w : Worth) (agent : ℕ) (p : ℕ) (amount : Rational) (go gone : State → Ending) → ((s : State) → go s ≡ gone s) → (s : State) → cut_at (w agent) agent p amount go s ≡ cut_at (w agent) agent p amount gone s
-cut_same w agent p amount go gone same s = ap (λ (f : State → Ending). cut_at (w agent) agent p amount f s) (λ i t. same t i)
-
--- a core's run is the run of its program
-run_same : (w : Worth) (body : List PlainStatement) (names : List (List ℕ)) (s : State) → run w (tree_from names body) s ≡ run_body w body names s
-run_same w [] names s = refl
-run_same w (Cut agent piece num den left right ∷ rest) names s =
-    cut_same w agent (place_of piece names) (amount_of num den) _ _ (run_same w rest (names ++ left ∷ right ∷ [])) s
-run_same w (Give piece agent ∷ rest) names s =
-    let after : State = record { board = give_on (place_of piece names) agent s.board; answers = s.answers; trace = s.trace } in
-    ap (λ ns. run w (tree_from ns rest) after) (append-nil names) ∙ run_same w rest names after
-
-pub run_is_kept : (w : Worth) (p : PlainProgram) (s : State) → run w (core_of_program p).tree s ≡ run_program w p s
-run_is_kept w p s = run_same w p.body (codes "cake" ∷ []) s
 
 -- ---- well-formedness
 

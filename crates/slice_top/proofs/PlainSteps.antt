@@ -16,7 +16,7 @@ use Rattle.slice_run.proofs.NodeLaws.{tree_of-Cut}
 use Rattle.slice_run.specs.declared.core_tree.Node.{Node}
 use Rattle.slice_run.specs.declared.core_tree.Node.TheVariants as node
 use Rattle.slice_top.specs.PlainProgram.{PlainStatement, Cut, Give, names_bound, is_cut, IsShort, IsShortDen}
-use Rattle.slice_top.specs.PlainRun.{tree_before, tree_from}
+use Rattle.slice_top.specs.PlainCore.{tree_before, tree_from}
 use Rattle.slice_top.specs.PlainViews.{statement_of, statements_of}
 use Rattle.slice_top.specs.declared.plain.statement.Statement.{Statement}
 use Rattle.slice_top.proofs.UseTurns.{of_push}

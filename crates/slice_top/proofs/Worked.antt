@@ -1,13 +1,15 @@
 -- The definitions at worked texts.
-use Rattle.std.proofs.Common.{◌≡◌, ℕ, List, [], ◌∷◌, Some, None, refl, arith}
+use Rattle.std.proofs.Common.{◌≡◌, ℕ, List, [], ◌∷◌, Some, refl, sym, subst, arith}
 use Rattle.std.specs.Prelude.{codes}
 use Rattle.std.proofs.lemmas.Bool.{both_ways}
 use Rattle.std.proofs.lemmas.Fmt.{decimal_digit}
-use Rattle.slice_top.specs.PlainText.{Spells}
-use Rattle.slice_top.specs.PlainProgram.{PlainProgram, PlainStatement, Cut, Give, tokens_of, IsSingleUse}
-use Rattle.slice_top.specs.PlainLexer.{is_run, run_tokens, with_run, closed, lengthened, after_run, with_byte, lexed, tokens_in}
+use Rattle.slice_lex.specs.Text.{Spells}
+use Rattle.slice_ast.specs.Tokens.{tokens}
+use Rattle.slice_ast.specs.Layout.{canonical_text}
+use Rattle.slice_ast.proofs.SpellingLemmas.{spells-canonical}
+use Rattle.slice_top.specs.PlainProgram.{PlainProgram, PlainStatement, Cut, Give, IsSingleUse}
+use Rattle.slice_top.specs.Surface.{surface_of}
 use Rattle.slice_top.specs.PlainUse.{is_in_range, binds_new, may_follow, all_follow}
-use Rattle.slice_top.proofs.Lexing.{tokens_in_is}
 use Rattle.slice_top.proofs.SingleUse.{single_use_is, single_use_from}
 
 abbrev half : PlainProgram
@@ -17,14 +19,14 @@ half = record {
 }
 
 abbrev half_text : List ℕ
-half_text = codes "protocol half agents 2 { cut 1 cake at 1/2 as l, r; give l to 1; give r to 2; }"
+half_text = codes "protocol half agents 2 {\n  cut 1 cake at 1/2 as l, r;\n  give l to 1;\n  give r to 2;\n}\n"
 
-half_read : tokens_in half_text ≡ Some (tokens_of half)
-unfolding is_run run_tokens with_run closed lengthened after_run with_byte lexed tokens_in
-half_read = rw (decimal_digit 1 (omega arith), decimal_digit 2 (omega arith)) refl
+-- the canonical text spells the tokens of the surface
+half_text_is : half_text ≡ canonical_text (surface_of half)
+half_text_is = rw (decimal_digit 1 (omega arith), decimal_digit 2 (omega arith)) refl
 
-half_spelled : Spells half_text (tokens_of half)
-half_spelled = (tokens_in_is half_text (tokens_of half) half_read).0
+half_spelled : Spells half_text (tokens (surface_of half))
+half_spelled = subst (λ t. Spells t (tokens (surface_of half))) (sym half_text_is) (spells-canonical (tokens (surface_of half)))
 
 half_single_use : IsSingleUse half.body
 unfolding is_in_range binds_new may_follow all_follow
@@ -37,8 +39,3 @@ twice = Give (codes "cake") 1 ∷ Give (codes "cake") 2 ∷ []
 twice_is_refused : IsSingleUse twice → ⊥
 unfolding is_in_range binds_new may_follow all_follow
 twice_is_refused u = both_ways _ refl (single_use_from twice u)
-
--- a number with a letter behind it is no token
-glued : tokens_in (codes "at 2a") ≡ None
-unfolding is_run run_tokens with_run closed lengthened after_run with_byte lexed tokens_in
-glued = refl

@@ -1,8 +1,7 @@
 -- Plain programs: cuts and gifts one after another, for two agents.
-use Rattle.std.specs.Prelude.{◌≡◌, ◌≢◌, ℕ, ◌<◌, ◌≤◌, ◌^◌, ◌⊎◌, List, [], ◌∷◌, ◌++◌, length, IsTrue, IsFalse, Option, Some, None, codes, decimal, flat_map, map, count_by, Bool, true, false}
+use Rattle.std.specs.Prelude.{◌≡◌, ◌≢◌, ℕ, ◌<◌, ◌≤◌, ◌^◌, ◌⊎◌, List, [], ◌∷◌, ◌++◌, length, IsTrue, IsFalse, Option, Some, None, codes, flat_map, map, count_by, Bool, true, false}
 use Rattle.std.specs.List.{AllByRecursion}
 use Rattle.slice_num.specs.Name.{is_name, is_among}
-use Rattle.slice_top.specs.PlainText.{Spells}
 
 -- a cut of a piece by an agent at a fraction, `num` or `num/den`, into two named pieces; or a gift of a piece to an agent
 pub data PlainStatement : Type 0 where
@@ -12,24 +11,6 @@ pub data PlainStatement : Type 0 where
 pub record PlainProgram : Type 0 where
   pub name : List ℕ
   pub body : List PlainStatement
-
--- `/den`, where it is written
-abbrev pub den_tokens : Option ℕ → List (List ℕ)
-den_tokens None = []
-den_tokens (Some den) = codes "/" ∷ decimal den ∷ []
-
-abbrev pub statement_tokens : PlainStatement → List (List ℕ)
-statement_tokens (Cut agent piece num den left right) =
-    codes "cut" ∷ decimal agent ∷ piece ∷ codes "at" ∷ decimal num ∷ (den_tokens den ++ (codes "as" ∷ left ∷ codes "," ∷ right ∷ codes ";" ∷ []))
-statement_tokens (Give piece agent) = codes "give" ∷ piece ∷ codes "to" ∷ decimal agent ∷ codes ";" ∷ []
-
-abbrev pub body_tokens : List PlainStatement → List (List ℕ)
-body_tokens [] = []
-body_tokens (s ∷ ss) = statement_tokens s ++ body_tokens ss
-
--- the texts of a program's tokens
-abbrev pub tokens_of : PlainProgram → List (List ℕ)
-tokens_of p = codes "protocol" ∷ p.name ∷ codes "agents" ∷ codes "2" ∷ codes "{" ∷ (body_tokens p.body ++ (codes "}" ∷ []))
 
 -- the piece that a statement uses
 abbrev pub used_by : PlainStatement → List ℕ
@@ -87,8 +68,3 @@ pub record IsPlainProgram (most_cuts : ℕ) (p : PlainProgram) : Type 0 where
   pub few_statements : length p.body ≤ 511
   pub few_cuts : count_by is_cut p.body ≤ most_cuts
   pub single_use : IsSingleUse p.body
-
--- the bytes are a plain text of this program; no `#` can stand in one, since no token has it
-pub record IsPlain (most_cuts : ℕ) (bytes : List ℕ) (p : PlainProgram) : Type 0 where
-  pub spelled : Spells bytes (tokens_of p)
-  pub plain : IsPlainProgram most_cuts p

@@ -7,6 +7,8 @@ ghost use Rattle.slice_top.specs.Stops.{command_view};
 /// What is asked for. Files go by name.
 #[derive(Clone, Copy, Debug)]
 pub enum Command<'a> {
+    /// `print F`: the protocol in the file F is written as its canonical text.
+    Print { protocol: &'a str },
     /// `run F V`: the protocol in the file F is run on the valuations in the file V.
     Run { protocol: &'a str, values: &'a str },
 }
@@ -17,6 +19,11 @@ pub fn command_of(words: &Vec<String>) -> Option<Command<'_>>
     ensures { option_map command_view result ≡ command_of (map string_bytes words.now.items) }
 {
     match words.as_slice() {
+        [name, protocol] if name.as_str() == "print" && !protocol.is_empty() => {
+            Some(Command::Print {
+                protocol: protocol.as_str(),
+            })
+        }
         [name, protocol, values]
             if name.as_str() == "run" && !protocol.is_empty() && !values.is_empty() => {
             Some(Command::Run {

@@ -1,5 +1,5 @@
 //! Laws of the definitions that [`top`](crate::top)'s contract rests on.
-ghost use Rattle.slice_top.specs.LeastRuns.{AnswersAreUnique, OutcomesAreLeastRuns, ProgramsAreUnique};
+ghost use Rattle.slice_top.specs.LeastRuns.{AnswersAreUnique, AnswersExist, OutcomesAreLeastRuns, ProgramsAreUnique};
 
 /// What is told of a plain text and valuations is told of the program's least run, where each cut is answered by the
 /// least right point: its values are the share-values, its envious pairs are those who envy, and where it is done, shares
@@ -17,4 +17,9 @@ pub fn programs_are_unique()
 /// memory.
 pub fn answers_are_unique()
     ensures { AnswersAreUnique }
+{}
+
+/// Files and a command have an answer, whatever the files hold.
+pub fn answers_exist()
+    ensures { AnswersExist }
 {}

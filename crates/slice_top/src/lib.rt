@@ -14,7 +14,7 @@ pub mod status;
 mod work;
 
 pub use ending::{end_for_memory, top};
-pub use laws::{answers_are_unique, outcomes_are_least_runs, programs_are_unique};
+pub use laws::{answers_are_unique, answers_exist, outcomes_are_least_runs, programs_are_unique};
 pub use status::Status;
 
 #[cfg(test)]

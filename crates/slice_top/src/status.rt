@@ -5,7 +5,7 @@ ghost use Rattle.slice_top.specs.Stops.{code_of};
 /// How the program ends.
 #[derive(Clone, Copy, Debug, PartialEq, Eq)]
 pub enum Status {
-    /// The work was done, and nobody is envied.
+    /// The work was done: a text was printed, or nobody is envied.
     Good,
     /// The run got stuck, or someone is envied.
     Negative,

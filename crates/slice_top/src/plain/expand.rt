@@ -2,9 +2,9 @@
 ghost use Rattle.std.specs.Prelude.{◌≡◌, ◌≢◌, ◌≤◌, length, IfOk};
 ghost use Rattle.slice_run.specs.Nodes.{tree_of};
 ghost use Rattle.slice_run.specs.Cores.{core_of};
-ghost use Rattle.slice_run.specs.Run.{Worth, State, run};
 ghost use Rattle.slice_top.specs.PlainProgram.{names_bound, IsInRange, IsFormed, IsShort, IsShortDen, IsPlainProgram};
-ghost use Rattle.slice_top.specs.PlainRun.{place_of, amount_of, tree_before, core_of_program, run_program};
+ghost use Rattle.slice_top.specs.PlainRun.{amount_of};
+ghost use Rattle.slice_top.specs.PlainCore.{place_of, tree_before, core_of_program, KeepsRuns};
 ghost use Rattle.slice_top.specs.PlainViews.{statement_of, statements_of, program_of};
 
 use crate::plain::single_use::count_cuts;
@@ -93,7 +93,7 @@ fn node_before(
 pub fn expand_plain(alloc: Global, program: Program) -> Result<Core, Memory>
     requires { IsPlainProgram 64 (program_of program) }
     ensures core { IfOk result (λ c. core_of c ≡ core_of_program (program_of program)) }
-    ensures kept { IfOk result (λ c. (w : Worth) (s : State) → run w (core_of c).tree s ≡ run_program w (program_of program) s) }
+    ensures kept { IfOk result (λ c. KeepsRuns (program_of program) (core_of c)) }
 {
     let Program { name, body } = program;
     let statements = body.as_slice();

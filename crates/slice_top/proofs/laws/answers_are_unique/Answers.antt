@@ -1,5 +1,5 @@
-use Rattle.slice_top.proofs.UniqueAnswers.{answer_unique, program_unique}
+use Rattle.slice_top.proofs.UniqueAnswers.{answer_unique}
 use Rattle.slice_top.proofs.laws.answers_are_unique.Goals as goal
 
 pub returns : goal.returns
-returns c = answer_unique program_unique
+returns c = answer_unique

@@ -3,12 +3,13 @@ use Rattle.std.specs.Prelude.{codes}
 use Rattle.std.specs.List.{AllByRecursion}
 use Rattle.slice_run.specs.Nodes.{tree_of}
 use Rattle.slice_run.specs.Core.{Core, Tree, IsWellFormed}
-use Rattle.slice_run.specs.Run.{run}
+use Rattle.slice_run.specs.Run.{run, start}
 use Rattle.slice_top.specs.PlainProgram.{names_bound, IsInRange, IsFormed}
-use Rattle.slice_top.specs.PlainRun.{tree_from, core_of_program}
+use Rattle.slice_top.specs.PlainCore.{tree_from, core_of_program}
 use Rattle.slice_top.specs.PlainViews.{statements_of, program_of}
 use Rattle.slice_top.proofs.PlainSteps.{each_at}
-use Rattle.slice_top.proofs.PlainCores.{core_is_well_formed, run_is_kept}
+use Rattle.slice_top.proofs.PlainCores.{core_is_well_formed}
+use Rattle.slice_top.proofs.PlainRuns.{run_is_kept}
 use Rattle.slice_top.proofs.plain.expand.expand_plain.Goals as goal
 
 pub node_before-requires-clause-in_range : goal.node_before-requires-clause-in_range
@@ -42,5 +43,5 @@ returns-clause-core c =
     c.new.ensures ∙ ap (λ (t : Tree). record { name = c.args.program.name; agents = 2; tree = t }) root
 
 pub returns-clause-kept : goal.returns-clause-kept
-returns-clause-kept c = λ w s.
-    ap (λ (k : Core). run w k.tree s) (returns-clause-core c) ∙ run_is_kept w (program_of c.args.program) s
+returns-clause-kept c = λ w length ys.
+    ap (λ (k : Core). run w k.tree (start k.agents length ys)) (returns-clause-core c) ∙ run_is_kept (program_of c.args.program) w length ys

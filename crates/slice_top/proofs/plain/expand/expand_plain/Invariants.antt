@@ -1,7 +1,7 @@
 use Rattle.std.proofs.Common.{◌≡◌, take, drop}
 use Rattle.slice_run.specs.Nodes.{tree_of}
 use Rattle.slice_top.specs.PlainProgram.{names_bound}
-use Rattle.slice_top.specs.PlainRun.{tree_from}
+use Rattle.slice_top.specs.PlainCore.{tree_from}
 use Rattle.slice_top.specs.PlainViews.{statements_of}
 use Rattle.slice_top.proofs.plain.expand.expand_plain.Given as goal
 

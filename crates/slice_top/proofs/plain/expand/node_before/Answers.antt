@@ -1,6 +1,6 @@
 use Rattle.std.proofs.Common.{◌≡◌, ◌+◌, ◌*◌, length, ap, sym, ◌∙◌}
 use Rattle.slice_top.specs.PlainProgram.{names_bound}
-use Rattle.slice_top.specs.PlainRun.{place_of, tree_before}
+use Rattle.slice_top.specs.PlainCore.{place_of, tree_before}
 use Rattle.slice_top.specs.PlainViews.{statement_of, statements_of}
 use Rattle.slice_run.specs.Nodes.{tree_of}
 use Rattle.slice_top.proofs.PlainSteps.{length_names, node_cut}

@@ -1,7 +1,7 @@
 use Rattle.std.proofs.Common.{◌≡◌, ◌+◌, ◌*◌, ◌≤◌, drop}
 use Rattle.std.specs.Prelude.{flat_map}
 use Rattle.slice_top.specs.PlainProgram.{bound_by, names_bound}
-use Rattle.slice_top.specs.PlainRun.{place_of}
+use Rattle.slice_top.specs.PlainCore.{place_of}
 use Rattle.slice_top.specs.PlainViews.{statements_of}
 use Rattle.slice_top.proofs.plain.expand.piece_number.Given as goal
 
