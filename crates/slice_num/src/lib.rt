@@ -5,30 +5,35 @@
 //! A whole number fits where it lies from `-(2^127 - 1)` to `2^127 - 1`.
 #![tactic(auto)]
 
-ghost use Rattle.std.specs.Prelude.{◌≡◌, ◌≢◌, ◌↔◌, ◌<◌, ◌^◌, pos, ◌<ℤ◌, ◌*ℤ◌, ◌+ℤ◌, unsigned_abs, IsTrue, OkIff, IfOk, IfErr};
+ghost use Rattle.std.specs.Prelude.{◌≡◌, ◌≢◌, ◌↔◌, ◌<◌, ◌^◌, pos, ◌<ℤ◌, ◌*ℤ◌, ◌+ℤ◌, unsigned_abs, IsTrue, OkIff, IfOk, IfErr, Some};
 ghost use Rattle.std.specs.String.{string_bytes};
 ghost use Rattle.std.specs.Ordering.{int_cmp};
 ghost use Rattle.slice_num.specs.Rational.{Rational, plus, times, negated, minus, whole, Fits, is_lowest, IsTrue-prop};
 ghost use Rattle.slice_num.specs.Arithmetic.{FitsRational, quotient, inverse, SumFits};
 ghost use Rattle.slice_num.specs.Fitting.{fitting_of, sum_in, product_in, difference_in, quotient_in};
 ghost use Rattle.slice_num.specs.FractionText.{fraction_text};
+ghost use Rattle.slice_num.specs.FractionReading.{Writes, fraction_read};
 
-use crate::numbers::{
-    compare_natural, divide, gcd_natural, magnitude, product, signs_differ, sum, with_sign,
-};
+use crate::numbers::{compare_natural, magnitude, signs_differ, with_sign};
+use crate::reading::read_unsigned;
 use std::alloc::{AllocError, Global};
 use std::cmp::Ordering;
 use std::marker::Model;
 
 pub mod choice;
+pub mod cut_answer;
 pub mod interval;
+pub mod key;
 mod numbers;
 pub mod properties;
+mod reading;
 pub mod word;
 
 pub use choice::{Choice, Side};
+pub use cut_answer::CutAnswer;
 pub use interval::Interval;
-pub use numbers::gcd;
+pub use key::Key;
+pub use numbers::{compare_ratios, difference, divide, gcd, gcd_natural, lcm, product, sum};
 pub use word::Word;
 
 // The greatest number that fits.
@@ -210,6 +215,20 @@ impl Frac {
             Ok(format!(in alloc; "{num}")?)
         } else {
             Ok(format!(in alloc; "{num}/{den}")?)
+        }
+    }
+
+    /// The fraction that a text writes: an optional `-`, 1 to 39 digits, and optionally `/` and 1 to 39 digits.
+    ///
+    /// It needn't be in lowest terms, and `-0` and leading zeros are taken. None comes exactly where the text has another
+    /// form, the denominator is 0, or a part as it is written doesn't fit.
+    pub fn read(text: &str) -> Option<Frac>
+        ensures exact { (q : Rational) → (result ≡ Some q) ↔ Writes text.now q }
+        ensures value { result ≡ fraction_read text.now }
+    {
+        match text.strip_prefix('-') {
+            Some(rest) => read_unsigned(rest, true),
+            None => read_unsigned(text, false),
         }
     }
 
@@ -422,6 +441,48 @@ mod tests {
         ] {
             let text = Frac::new(num, den)?.text(rt.alloc())?;
             assert_eq!(rt; text.as_str(), want);
+        }
+        Ok(())
+    }
+
+    #[test]
+    fn reads(rt: HostRuntime) -> Result<(), Fail> {
+        for (text, want) in [
+            ("0", Some((0, 1))),
+            ("-0", Some((0, 1))),
+            ("-0/3", Some((0, 1))),
+            ("007", Some((7, 1))),
+            ("-6/4", Some((-3, 2))),
+            ("6/004", Some((3, 2))),
+            ("170141183460469231731687303715884105727", Some((MOST, 1))),
+            (
+                "-170141183460469231731687303715884105727/2",
+                Some((-MOST, 2)),
+            ),
+            ("000000000000000000000000000000000000007/1", Some((7, 1))),
+            ("0000000000000000000000000000000000000007", None),
+            ("170141183460469231731687303715884105728", None),
+            ("-170141183460469231731687303715884105728", None),
+            ("2/170141183460469231731687303715884105728", None),
+            ("999999999999999999999999999999999999999", None),
+            ("", None),
+            ("-", None),
+            ("+1", None),
+            ("1/+2", None),
+            ("1/-2", None),
+            ("--1", None),
+            ("1/0", None),
+            ("0/0", None),
+            ("1/", None),
+            ("/2", None),
+            ("1/2/3", None),
+            (" 1", None),
+            ("1.0", None),
+            ("1e2", None),
+            ("a", None),
+        ] {
+            let found = Frac::read(text).map(|q| (q.num(), q.den()));
+            assert_eq!(rt; found, want, "{text}");
         }
         Ok(())
     }
