@@ -1,0 +1,15 @@
+pub mod Coefs
+pub mod Dots
+pub mod KindLaws
+pub mod Lists
+pub mod LowestLaws
+pub mod Merge
+pub mod MergeLaws
+pub mod Motzkin
+pub mod Multiples
+pub mod Putting
+pub mod Reduced
+pub mod Ring
+pub mod SolutionLaws
+pub mod SumLaws
+pub mod Told
