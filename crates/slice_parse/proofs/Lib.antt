@@ -4,6 +4,7 @@ mod Numbers
 mod Classed
 mod Exact
 mod Parsed
+mod ReadOnce
 mod Reading
 pub mod Matching
 pub mod FromSteps

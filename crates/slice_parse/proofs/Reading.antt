@@ -99,7 +99,7 @@ outcome_is (Good q rest) x e =
     (q, (ap (λ ts. Good q ts) (none_left rest left), same))
 outcome_is (Bad f rest) x e = cc
 
-as_many : (ts : List Token) (ms : List Mark) → texts_of ts ≡ map mark_text ms → length ms ≤ length ts
+pub as_many : (ts : List Token) (ms : List Mark) → texts_of ts ≡ map mark_text ms → length ms ≤ length ts
 as_many ts ms e =
     let a : length (texts_of ts) ≡ length (map mark_text ms) = ap length e in
     let b : length (texts_of ts) ≡ length ts = length-map ts text_of in

@@ -9,6 +9,7 @@ use Rattle.slice_lex.proofs.Unique.{lexings_unique}
 use Rattle.slice_lex.proofs.Exists.{some_lexing}
 use Rattle.slice_lex.proofs.Spelled.{spelled_lexed, lexed_spelled}
 use Rattle.slice_ast.specs.Code.{PlainProgram}
+use Rattle.slice_ast.specs.Places.{HasPlaces}
 use Rattle.slice_ast.specs.Tokens.{tokens}
 use Rattle.slice_ast.proofs.CalmLemmas.{program-tokens, program-apart}
 use Rattle.slice_ast.proofs.Whole.{program_same}
@@ -21,7 +22,7 @@ use Rattle.slice_parse.specs.Begins.{Begins, IsWhole}
 use Rattle.slice_parse.specs.Classes.{AreSound, texts_of as lexeme_texts, AreToldApart}
 use Rattle.slice_parse.specs.Parsing.{IsWrong, IsCutShort, PassesAt, IsFaultOf}
 use Rattle.slice_parse.specs.Told.{next_place, told}
-use Rattle.slice_parse.specs.Laws.{IsTextOf, HasFault, FaultsAreUnique, FaultyTextsHaveNoProgram, ProgramsAreUnique, EachTextIsParsed}
+use Rattle.slice_parse.specs.Laws.{IsTextOf, IsProgramOf, HasFault, FaultsAreUnique, FaultyTextsHaveNoProgram, ProgramsAreUnique, EachTextIsParsed}
 use Rattle.slice_parse.proofs.LimitSteps.{scan}
 use Rattle.slice_parse.proofs.LimitRules.{limit_program}
 use Rattle.slice_parse.proofs.Words.{start, keeps_limits}
@@ -52,7 +53,7 @@ meet (x ∷ f) w b (y ∷ g) v c e =
 
 -- ---- one lexing
 
-one_list : (file : List ℕ) (ts us : List Token) → IsLexing file (Tokens ts) → IsLexing file (Tokens us) → ts ≡ us
+pub one_list : (file : List ℕ) (ts us : List Token) → IsLexing file (Tokens ts) → IsLexing file (Tokens us) → ts ≡ us
 one_list file ts us h k = let e = lexings_unique file (Tokens ts) (Tokens us) h k in cc
 
 one_fault : (file : List ℕ) (f g : LexFault) → IsLexing file (Fault f) → IsLexing file (Fault g) → f ≡ g
@@ -247,7 +248,7 @@ faulty_apart text f p h t = no_program text f p h.own h.first t
 -- ---- each text is parsed
 
 abbrev Parsed : List ℕ → Type 0
-Parsed text = ((p : PlainProgram) × IsTextOf text p) ⊎ ((f : ParseFault) × HasFault text f)
+Parsed text = ((p : PlainProgram) × IsProgramOf text p) ⊎ ((f : ParseFault) × HasFault text f)
 
 lex_own : (f : LexFault) → fault.Lex f ≢ fault.Memory
 lex_own f e = cc
@@ -259,7 +260,13 @@ module _ (file : List ℕ) (ts : List Token) (ls : List step.Token) (lexed : IsL
   by_read : (o : step.Outcome PlainProgram) → read ls ≡ o → Parsed file
   by_read (step.Good p rest) e =
       let r = (read_is_exact.found ls rest p apart.sound e).1 in
-      inl (p, record { spelled = subst (Spells file) (sym apart.texts ∙ r.texts) (lexed_spelled file ts lexed).0; spellable = r.spelled; within = r.within })
+      inl (
+        p,
+        record {
+          spelled = record { spelled = subst (Spells file) (sym apart.texts ∙ r.texts) (lexed_spelled file ts lexed).0; spellable = r.spelled; within = r.within };
+          read = (ts, (lexed, sym apart.texts ∙ r.texts, subst (HasPlaces p) apart.places r.places));
+        },
+      )
   by_read (step.Bad step.Tired rest) e = absurd (read_is_exact.calm ls rest e)
   by_read (step.Bad step.Syntax rest) e =
       faulted file (fault.Syntax (next_place rest (length file))) (λ x. cc)
