@@ -1,5 +1,8 @@
 pub mod Causes
 pub mod Files
+pub mod Gathered
+pub mod Growing
+pub mod Lines
 pub mod Memory
 pub mod Named
 pub mod Real
