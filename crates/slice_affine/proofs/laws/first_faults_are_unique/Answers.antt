@@ -1,0 +1,5 @@
+use Rattle.slice_affine.proofs.UniqueLemmas as lemmas
+use Rattle.slice_affine.proofs.laws.first_faults_are_unique.Goals as goal
+
+pub returns : goal.returns
+returns c = lemmas.first_faults_unique

@@ -1,0 +1,14 @@
+pub mod Faults
+pub mod Scope
+pub mod Looks
+pub mod Ways
+pub mod Rules
+pub mod Counts
+pub mod Conditions
+pub mod Once
+pub mod Kept
+pub mod Pass
+pub mod ProgramPass
+pub mod Answers
+pub mod Shown
+pub mod Found
