@@ -1,0 +1,11 @@
+pub mod System
+pub mod Basis
+pub mod Lex
+pub mod Cells
+pub mod Table
+pub mod Run
+pub mod Laws
+pub mod Inside
+pub mod First
+pub mod Pivot
+pub mod Sparse
