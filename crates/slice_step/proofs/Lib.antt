@@ -1,0 +1,14 @@
+pub mod Answering
+pub mod AnswerLaws
+pub mod Ends
+pub mod EntryLaws
+pub mod Exact
+pub mod FileLaws
+pub mod InOrder
+pub mod Least
+pub mod LeastAnswer
+pub mod OneAnswer
+pub mod Reach
+pub mod Steps
+pub mod Units
+pub mod Walk

@@ -1,0 +1,30 @@
+use Rattle.std.proofs.Common.{◌≡◌, ◌∙◌, pos, get_or, true, arith}
+use Rattle.std.proofs.lemmas.Grind.{common_steps}
+use Rattle.slice_step.specs.ValuationShape.{steps}
+use Rattle.slice_num.specs.Rational.{whole}
+use Rattle.slice_num.specs.Fitting.{below}
+use Rattle.slice_step.proofs.Steps.{place_in-is}
+use Rattle.slice_step.proofs.Walk.{passed, place_passed}
+use Rattle.slice_step.proofs.place.place_of.Goals as goal
+
+pub loop-i-preserved : goal.loop-i-preserved
+loop-i-preserved c =
+    let w = c.loop-i in
+    let es = c.args.ends.now in
+    let hs = c.args.heights.now in
+    let t : below (whole (pos (get_or es w.i 0))) c.args.p.now ≡ true = grind (arith, common_steps) in
+    let h = passed w.base w.start w.i es hs c.requires.small (omega arith) w.invariant.high w.invariant.rises in
+    record {
+      same = place_passed w.base w.start w.i es hs c.args.p.now h.in_ends h.in_heights t ∙ w.invariant.same;
+      high = h.high;
+      near = h.near;
+      rises = h.rises;
+    }
+
+pub loop-i-init : goal.loop-i-init
+loop-i-init c = record {
+  same = place_in-is (steps c.args.ends.now c.args.heights.now) c.args.p.now c.requires.small.0.same_length;
+  high = omega arith;
+  near = omega arith;
+  rises = c.requires.small.0.rises;
+}
