@@ -1,247 +1,241 @@
--- The walk that makes the numbers is the least run: where they all fit, each of its points is the least right one.
-use Rattle.std.proofs.Common.{◌≡◌, ◌≢◌, ◌∙◌, ℕ, zero, suc, ◌-◌, ◌<◌, ◌++◌, ◌∷◌, List, [], length, map, take, pos, Bool, true, false, Some, None, refl, ap, sym, subst, arith}
+-- Every core has a least run, and where its numbers fit the walk that takes the least answers shows it.
+use Rattle.std.proofs.Common.{◌≡◌, ◌∙◌, ℕ, zero, suc, ◌+◌, ◌++◌, ◌∷◌, List, [], length, map, take, pos, Bool, true, false, Some, None, refl, ap, sym, subst}
 use Rattle.std.specs.List.{All}
-use Rattle.std.specs.Prelude.{⊤, IsTrue, ◌&&◌, nat_le, slice_get, if◌then◌else◌}
-use Rattle.std.proofs.lemmas.List.Elements.{All-get_or}
-use Rattle.std.proofs.lemmas.Bool.Decides.{nat_tests}
-use Rattle.slice_num.specs.Rational.{Rational, whole, IsAtMost, IsBelow}
-use Rattle.slice_num.specs.Fitting.{Fitting, Fitted, Unfit, below}
+use Rattle.std.specs.Prelude.{⊤, if◌then◌else◌}
+use Rattle.slice_num.specs.Rational.{Rational, whole}
+use Rattle.slice_num.specs.Fitting.{Fitting, Fitted, below}
 use Rattle.slice_num.specs.Valuation.{Valuation, IsValuation, share_value}
 use Rattle.slice_num.specs.declared.interval.Interval.{Interval}
 use Rattle.slice_num.specs.declared.choice.Side.{Side}
 use Rattle.slice_num.specs.declared.choice.Side.TheVariants as side
 use Rattle.slice_num.specs.declared.choice.Choice.{Choice}
 use Rattle.slice_num.specs.declared.choice.Choice.TheVariants as choice
-use Rattle.slice_num.proofs.FieldLaws.{below-false, below-not}
-use Rattle.slice_run.specs.Arithmetic.{share_in, cut_point_in, at_most, same_as}
-use Rattle.slice_run.specs.Core.{Tree, Cut, Give, End, is_formed, is_agent}
-use Rattle.slice_num.specs.ValueLaws.{stretch}
-use Rattle.slice_run.specs.Exact.{HasShare, IsLeastCut}
-use Rattle.slice_run.specs.Pieces.{Piece, piece_at, before_point, cut_pieces}
-use Rattle.slice_run.specs.Run.{Board, Worth, State, Ending, Done, Stuck, Few, Bad, Many, is_right, halted, cut_at, cut_on, give_on, run}
-use Rattle.slice_run.specs.Shapes.{is_held, AllSingle}
-use Rattle.slice_run.specs.Walk.{Walked, Good, walk_on, Halt, AtEnd, AtCut, walk, valuation_of, stretch_of, worth_of, IsBad}
-use Rattle.slice_run.proofs.Exact.{share_in-exact}
-use Rattle.slice_run.proofs.Least.{cut_point_in-least, same_as-true, same_as-is}
-use Rattle.slice_run.proofs.Ordered.{AllOrdered, PieceInOrder, piece_all, ordered_at, ordered_cut, ordered_given, ordered_set}
-use Rattle.slice_run.proofs.Ready.{both_out, one_stretch, cut_formed, formed_cut, formed_give, single_cut, single_emptied}
+use Rattle.slice_num.proofs.FieldLaws.{below-false}
+use Rattle.slice_core.specs.Tree.{Tree, Ask, Set, Cut, Join, Test, Give, End}
+use Rattle.slice_num.specs.Pieces.{piece_at, passed, is_held}
+use Rattle.slice_core.specs.Run.{Piece, Board, ask_on, cut_on, join_on, give_on, left_piece, right_piece, Ending, Done, Stuck, Few, Bad, Many, State, sum_value, goes_yes, cut_at, run}
+use Rattle.slice_core.specs.declared.node.Lin.{Lin}
+use Rattle.slice_num.specs.declared.cut_answer.CutAnswer.{CutAnswer}
+use Rattle.slice_core.proofs.FormedLaws.{ask_formed, cut_formed, part_of}
+use Rattle.slice_num.proofs.Parts.{part_at}
+use Rattle.slice_step.specs.Arithmetic.{share_in, least_answer_in}
+use Rattle.slice_run.specs.Sums.{lin_in}
+use Rattle.slice_run.specs.Walk.{Walked, Good, walk_on, InRange, Onward, Least, Halt, AtCut, halt, cut_board, cut_answered, walk_cut, walk}
+use Rattle.slice_run.specs.RunLaws.{AreLeast}
+use Rattle.slice_step.specs.Exact.{CanCut, IsLeastAnswer, Precedes}
+use Rattle.slice_step.proofs.LeastAnswer.{answer_exists, answer_found, one_least}
+use Rattle.slice_step.proofs.InOrder.{PieceInOrder}
+use Rattle.slice_run.proofs.Ordered.{ordered_at}
+use Rattle.slice_run.proofs.Sound.{Sound, sound_ask, sound_set, sound_cut, sound_join, sound_yes, sound_no, sound_give}
+use Rattle.slice_run.proofs.Shown.{shown, on_number, lin_exact, valid_at, share_exact}
+use Rattle.slice_run.proofs.RunSteps.{state, run_low, run_high, run_past, run_wrong, bad_along, IsOpen}
+use Rattle.slice_core.specs.Measures.{valuation_of, worth_of}
 
--- ---- steps of a run
-pub run_low : (w : Piece → Rational) (a p : ℕ) (amount : Rational) (go : State → Ending) (s : State) → below amount (whole (pos 0)) ≡ true → cut_at w a p amount go s ≡ halted side.Low choice.Low s
-run_low w a p amount go s e = rw e
+-- a run that came to its end, or is stuck
+abbrev pub IsOver : Ending → Type 0
+IsOver (Done s) = ⊤
+IsOver (Stuck at s) = ⊤
+IsOver (Few query) = ⊥
+IsOver (Bad query) = ⊥
+IsOver Many = ⊥
 
-pub run_high : (w : Piece → Rational) (a p : ℕ) (amount : Rational) (go : State → Ending) (s : State) → below amount (whole (pos 0)) ≡ false → below (w (piece_at s.board.pieces p)) amount ≡ true
-    → cut_at w a p amount go s ≡ halted side.High choice.High s
-run_high w a p amount go s e f = rw (e, f)
+-- the answers of the least run, and the walk that takes the least ones
+pub record Follows (ending : List CutAnswer → Ending) (w : Walked Halt) : Type 0 where
+  pub answers : List CutAnswer
+  pub over : IsOver (ending answers)
+  pub least : AreLeast ending answers
+  pub same : InRange w → shown (ending answers) ≡ w
 
-pub run_past : (w : Piece → Rational) (a p : ℕ) (amount : Rational) (go : State → Ending) (b : Board) (y : Rational) (ys : List Rational) (trace : List Choice) (i : Interval) → below amount (whole (pos 0)) ≡ false
-    → below (w (piece_at b.pieces p)) amount ≡ false → piece_at b.pieces p ≡ i ∷ [] → is_right w i amount y ≡ true
-    → cut_at w a p amount go (record { board = b; answers = y ∷ ys; trace = trace }) ≡ go (record { board = cut_on a p amount i y b; answers = ys; trace = trace ++ choice.Go ∷ [] })
-run_past w a p amount go b y ys trace i e f one r = rw (e, f, one, r)
+-- no answer was given, so that none can be preceded
+none_given : (ending : List CutAnswer → Ending) → AreLeast ending []
+none_given ending k y z g h = let none : None ≡ Some y = g in cc
 
-pub run_wrong : (w : Piece → Rational) (a p : ℕ) (amount : Rational) (go : State → Ending) (b : Board) (y : Rational) (ys : List Rational) (trace : List Choice) (i : Interval) → below amount (whole (pos 0)) ≡ false
-    → below (w (piece_at b.pieces p)) amount ≡ false → piece_at b.pieces p ≡ i ∷ [] → is_right w i amount y ≡ false
-    → cut_at w a p amount go (record { board = b; answers = y ∷ ys; trace = trace }) ≡ Bad (length b.queries)
-run_wrong w a p amount go b y ys trace i e f one r = rw (e, f, one, r)
+-- ---- a cut
+-- what is known of the tree that follows
+abbrev Later : List Valuation → ℕ → ℕ → Tree → Type 0
+Later vs agents count next =
+    (regs : List Rational) (b : Board) → Sound agents count next b → (trace : List Choice) → Follows (λ ys. run (worth_of vs) next regs (state b ys trace)) (walk vs next regs Least b)
 
--- ---- the tests on a point
-at_most-is : (a b : Rational) → IsAtMost a b → at_most a b ≡ true
-at_most-is a b h = rw (below-not b a h)
+-- a cut at hand, whose amount is known
+pub record AtHand (vs : List Valuation) (agents count a p : ℕ) (amount : Lin) (l r : ℕ) (next : Tree) (b : Board) : Type 0 where
+  pub valuation : IsValuation (valuation_of vs a)
+  pub later : Later vs agents count next
+  pub sound : Sound agents count (Cut a p amount l r next) b
 
-at_most-out : (a b : Rational) → at_most a b ≡ true → IsAtMost a b
-at_most-out a b h = by (below b a) refl h
-  where
-    by : (t : Bool) → below b a ≡ t → (if t then false else true) ≡ true → IsAtMost a b
-    by true e h = cc
-    by false e h = below-false b a e
+abbrev cut_ending : List Valuation → ℕ → ℕ → Rational → Tree → List Rational → Board → List Choice → List CutAnswer → Ending
+cut_ending vs a p share next regs b trace ys = cut_at (worth_of vs a) a p share (run (worth_of vs) next regs) (state b ys trace)
 
-all_true : (a b c : Bool) → a ≡ true → b ≡ true → c ≡ true → (a && (b && c)) ≡ true
-all_true a b c e f g = rw (e, f, g)
+abbrev cut_walk : List Valuation → ℕ → ℕ → Rational → Tree → List Rational → Board → Walked Halt
+cut_walk vs a p share next regs b = walk_cut (valuation_of vs a) a p share (walk vs next regs) Least b
 
-last_false : (a b c : Bool) → (a ≡ true → c ≡ false) → (a && (b && c)) ≡ false
-last_false false b c h = refl
-last_false true false c h = refl
-last_false true true c h = h refl
-
--- the least point is right
-right_is : (w : Piece → Rational) (i : Interval) (amount y : Rational) → IsAtMost i.from y → IsAtMost y i.to → w (stretch i.from y ∷ []) ≡ amount → is_right w i amount y ≡ true
-right_is w i amount y low high e = all_true (at_most i.from y) (at_most y i.to) (same_as (w (before_point i y ∷ [])) amount) (at_most-is i.from y low) (at_most-is y i.to high) (same_as-is (w (stretch i.from y ∷ [])) amount e)
-
--- and no smaller point is
-wrong_is : (w : Piece → Rational) (i : Interval) (amount z : Rational) → (IsAtMost i.from z → w (stretch i.from z ∷ []) ≢ amount) → is_right w i amount z ≡ false
-wrong_is w i amount z h =
-    last_false (at_most i.from z) (at_most z i.to) (same_as (w (before_point i z ∷ [])) amount) (λ low. by (same_as (w (before_point i z ∷ [])) amount) refl (h (at_most-out i.from z low)))
-  where
-    by : (t : Bool) → same_as (w (before_point i z ∷ [])) amount ≡ t → (w (stretch i.from z ∷ []) ≢ amount) → t ≡ false
-    by true e apart = absurd (apart (same_as-true (w (before_point i z ∷ [])) amount e))
-    by false e apart = refl
-
--- ---- what is true of the board all along
-pub record Sound (agents : ℕ) (tree : Tree) (b : Board) : Type 0 where
-  pub formed : IsTrue (is_formed agents (map is_held b.pieces) tree)
-  pub single : AllSingle b.pieces
-  pub pieces : AllOrdered b.pieces
-  pub shares : AllOrdered b.shares
-
-sound_cut : (agents a p l r : ℕ) (amount : Rational) (next : Tree) (b : Board) (i : Interval) (y : Rational) → Sound agents (Cut a p amount l r next) b → piece_at b.pieces p ≡ i ∷ [] → IsAtMost i.from y → IsAtMost y i.to
-    → Sound agents next (cut_on a p amount i y b)
-sound_cut agents a p l r amount next b i y s one low high = record {
-  formed = formed_cut agents b.pieces (cut_pieces b.pieces p i y) a p l r amount next i s.formed (y, (low, high), refl);
-  single = single_cut b.pieces (cut_pieces b.pieces p i y) p i s.single (y, (low, high), refl);
-  pieces = ordered_cut b.pieces p i y s.pieces one low high;
-  shares = s.shares;
+-- the cut is stuck
+stuck_follows : (ending : List CutAnswer → Ending) (w : Walked Halt) (at : Side) (s : State) → ending [] ≡ Stuck at s → (InRange w → Good (AtCut at s.board) ≡ w) → Follows ending w
+stuck_follows ending w at s e h = record {
+  answers = [];
+  over = subst IsOver (sym e) tt;
+  least = none_given ending;
+  same = λ r. ap shown e ∙ h r;
 }
 
-sound_give : (agents p a : ℕ) (next : Tree) (b : Board) → Sound agents (Give p a next) b → Sound agents next (give_on p a b)
-sound_give agents p a next b s = record {
-  formed = formed_give agents b.pieces a p next s.formed;
-  single = single_emptied b.pieces p s.single;
-  pieces = ordered_set b.pieces p [] s.pieces tt;
-  shares = ordered_given b.shares (a - 1) (piece_at b.pieces p) s.shares (ordered_at b.pieces p s.pieces);
-}
+-- the walk at the least answer
+abbrev after_answer : ℕ → ℕ → Rational → Onward → Board → CutAnswer → Walked Halt
+after_answer a p share go b y = go Least (cut_board a p share y b)
 
--- ---- the run beside the walk
-abbrev pub Ends : Ending → Halt → Type 0
-Ends (Done s) (AtEnd b) = s.board ≡ b
-Ends (Done s) (AtCut at b) = ⊥
-Ends (Stuck from s) (AtEnd b) = ⊥
-Ends (Stuck from s) (AtCut at b) = (s.board ≡ b) × (from ≡ at)
-Ends (Few q) h = ⊥
-Ends (Bad q) h = ⊥
-Ends Many h = ⊥
-
-abbrev pub SharesOrdered : Halt → Type 0
-SharesOrdered (AtEnd b) = AllOrdered b.shares
-SharesOrdered (AtCut at b) = ⊤
-
-pub record Follows (w : Worth) (tree : Tree) (b : Board) (trace : List Choice) (h : Halt) : Type 0 where
-  pub answers : List Rational
-  pub ends : Ends (run w tree (record { board = b; answers = answers; trace = trace })) h
-  pub least : (k : ℕ) (y z : Rational) → slice_get answers k ≡ Some y → IsBelow z y → IsBad (run w tree (record { board = b; answers = take k answers ++ z ∷ []; trace = trace }))
-  pub ordered : SharesOrdered h
-
-good_is : {A : Type 0} (x y : A) → Good x ≡ Good y → x ≡ y
-good_is x y e = cc
-
-ends_along : (e f : Ending) (h : Halt) → e ≡ f → Ends f h → Ends e h
-ends_along e f h q k = subst (λ (x : Ending). Ends x h) (sym q) k
-
-bad_along : (e f : Ending) → e ≡ f → IsBad f → IsBad e
-bad_along e f q k = subst IsBad (sym q) k
-
--- a walk that halts at a cut
-stuck_follows : (w : Worth) (tree : Tree) (b : Board) (trace : List Choice) (at : Side) (last : Choice) (h : Halt) → run w tree (record { board = b; answers = []; trace = trace }) ≡ Stuck at (record { board = b; answers = []; trace = trace ++ last ∷ [] })
-    → Good (AtCut at b) ≡ Good h → Follows w tree b trace h
-stuck_follows w tree b trace at last h e q =
-    subst (Follows w tree b trace) (good_is (AtCut at b) h q)
-    (record { answers = []; ends = ends_along _ _ (AtCut at b) e (refl, refl); least = λ k y z g lt. (let none : None ≡ Some y = g in cc); ordered = tt })
-
-agent_below : (agents a : ℕ) → IsTrue (is_agent agents a) → a - 1 < agents
-agent_below agents a h = let one = both_out (nat_le 1 a) (nat_le a agents) h in let low = one.0 in let high = one.1 in grind (arith, nat_tests)
-
-abbrev Next : List Valuation → ℕ → Tree → Type 0
-Next vs agents next = (b : Board) → Sound agents next b → (trace : List Choice) (h : Halt) → walk vs next b ≡ Good h → Follows (worth_of vs) next b trace h
-
--- a passed cut
-past_follows : (vs : List Valuation) (agents a p l r : ℕ) (amount : Rational) (next : Tree) (b : Board) (i : Interval) (y : Rational) (trace : List Choice) (h : Halt) → Next vs agents next → Sound agents (Cut a p amount l r next) b
-    → piece_at b.pieces p ≡ i ∷ [] → below amount (whole (pos 0)) ≡ false → below (worth_of vs a (piece_at b.pieces p)) amount ≡ false → IsLeastCut (valuation_of vs a) i.from i.to amount y
-    → walk vs next (cut_on a p amount i y b) ≡ Good h → Follows (worth_of vs) (Cut a p amount l r next) b trace h
-past_follows vs agents a p l r amount next b i y trace h then_follows s one low high cut q =
-    let w = worth_of vs in
-    let f = then_follows (cut_on a p amount i y b) (sound_cut agents a p l r amount next b i y s one cut.after cut.within) (trace ++ choice.Go ∷ []) h q in
-    let past = λ (ys : List Rational). run_past (w a) a p amount (run w next) b y ys trace i low high one (right_is (w a) i amount y cut.after cut.within cut.right) in
+-- the cut is answered by the least right answer
+past_follows : (vs : List Valuation) (agents count a p : ℕ) (amount : Lin) (l r : ℕ) (next : Tree) (regs : List Rational) (b : Board) (trace : List Choice) (share : Rational) → AtHand vs agents count a p amount l r next b
+    → IsOpen (worth_of vs a) p share b → (y : CutAnswer) (k : IsLeastAnswer (worth_of vs a) (piece_at b.pieces p) share y) (w : Walked Halt)
+    → (InRange w → InRange (walk vs next regs Least (cut_on a p share y (left_piece k.before k.here y.point) (right_piece k.here y.point k.after) b)) × (walk vs next regs Least (cut_on a p share y (left_piece k.before k.here y.point) (right_piece k.here y.point k.after) b) ≡ w))
+    → Follows (cut_ending vs a p share next regs b trace) w
+past_follows vs agents count a p amount l r next regs b trace share g o y k w onward =
+    let f = g.later regs (cut_on a p share y (left_piece k.before k.here y.point) (right_piece k.here y.point k.after) b) (sound_cut agents count a p amount l r next b share y k.before k.here k.after g.sound k.parts k.low k.high) (trace ++ passed k.before) in
+    let past = λ (ys : List CutAnswer). run_past (worth_of vs a) a p share (run (worth_of vs) next regs) b y ys trace k o in
     record {
       answers = y ∷ f.answers;
-      ends = ends_along _ _ h (past f.answers) f.ends;
-      least = least_of f past;
-      ordered = f.ordered;
+      over = subst IsOver (sym (past f.answers)) f.over;
+      least = least_of f.answers f.least past;
+      same = λ r. ap shown (past f.answers) ∙ f.same (onward r).0 ∙ (onward r).1;
     }
   where
-    least_of : (f : Follows (worth_of vs) next (cut_on a p amount i y b) (trace ++ choice.Go ∷ []) h)
-        → ((ys : List Rational) → cut_at (worth_of vs a) a p amount (run (worth_of vs) next) (record { board = b; answers = y ∷ ys; trace = trace }) ≡ run (worth_of vs) next (record { board = cut_on a p amount i y b; answers = ys; trace = trace ++ choice.Go ∷ [] }))
-        → (k : ℕ) (x z : Rational) → slice_get (y ∷ f.answers) k ≡ Some x → IsBelow z x → IsBad (run (worth_of vs) (Cut a p amount l r next) (record { board = b; answers = take k (y ∷ f.answers) ++ z ∷ []; trace = trace }))
-    least_of f past zero x z g lt =
+    least_of : (ys : List CutAnswer) → AreLeast (λ zs. run (worth_of vs) next regs (state (cut_on a p share y (left_piece k.before k.here y.point) (right_piece k.here y.point k.after) b) zs (trace ++ passed k.before))) ys
+        → ((zs : List CutAnswer) → cut_ending vs a p share next regs b trace (y ∷ zs) ≡ run (worth_of vs) next regs (state (cut_on a p share y (left_piece k.before k.here y.point) (right_piece k.here y.point k.after) b) zs (trace ++ passed k.before)))
+        → AreLeast (cut_ending vs a p share next regs b trace) (y ∷ ys)
+    least_of ys least past zero x z h precedes =
         let is : y ≡ x = cc in
-        let below_y : IsBelow z y = subst (λ (t : Rational). IsBelow z t) (sym is) lt in
-        bad_along _ _ (run_wrong (worth_of vs a) a p amount (run (worth_of vs) next) b z [] trace i low high one (wrong_is (worth_of vs a) i amount z (λ from. cut.least z from below_y))) tt
-    least_of f past (suc k) x z g lt = bad_along _ _ (past (take k f.answers ++ z ∷ [])) (f.least k x z g lt)
+        run_wrong (worth_of vs a) a p share (run (worth_of vs) next regs) b z [] trace (k.least z (subst (λ (t : CutAnswer). Precedes z t) (sym is) precedes)) o
+    least_of ys least past (suc n) x z h precedes = bad_along _ _ (past (take n ys ++ z ∷ [])) (least n x z h precedes)
 
--- the walk of a cut, number by number
-abbrev at_point : List Valuation → ℕ → ℕ → Rational → Tree → Board → Rational → Walked Halt
-at_point vs a p amount next b y = walk vs next (cut_on a p amount (stretch_of (piece_at b.pieces p)) y b)
-
-abbrev at_held : List Valuation → ℕ → ℕ → Rational → Tree → Board → Rational → Walked Halt
-at_held vs a p amount next b held =
-    if below held amount then Good (AtCut side.High b)
-    else walk_on (length b.queries) (cut_point_in (valuation_of vs a) (stretch_of (piece_at b.pieces p)).from amount) (at_point vs a p amount next b)
-
--- what the stages of a cut share
-record AtHand (vs : List Valuation) (agents a p l r : ℕ) (amount : Rational) (next : Tree) (b : Board) : Type 0 where
-  valuation : IsValuation (valuation_of vs a)
-  then_follows : Next vs agents next
-  sound : Sound agents (Cut a p amount l r next) b
-  stretch_there : Interval
-  one : piece_at b.pieces p ≡ stretch_there ∷ []
-  low : below amount (whole (pos 0)) ≡ false
-
-point_follows : (vs : List Valuation) (agents a p l r : ℕ) (amount : Rational) (next : Tree) (b : Board) (trace : List Choice) (h : Halt) → AtHand vs agents a p l r amount next b
-    → below (worth_of vs a (piece_at b.pieces p)) amount ≡ false → (m : Fitting Rational) → cut_point_in (valuation_of vs a) (stretch_of (piece_at b.pieces p)).from amount ≡ m
-    → walk_on (length b.queries) m (at_point vs a p amount next b) ≡ Good h → Follows (worth_of vs) (Cut a p amount l r next) b trace h
-point_follows vs agents a p l r amount next b trace h k high Unfit e q = cc
-point_follows vs agents a p l r amount next b trace h k high (Fitted y) e q =
+-- the cut has a least right answer
+open_follows : (vs : List Valuation) (agents count a p : ℕ) (amount : Lin) (l r : ℕ) (next : Tree) (regs : List Rational) (b : Board) (trace : List Choice) (share : Rational) → AtHand vs agents count a p amount l r next b
+    → IsOpen (worth_of vs a) p share b → (w : Walked Halt)
+    → (InRange w → InRange (cut_answered (valuation_of vs a) a p share (walk vs next regs) Least b) × (cut_answered (valuation_of vs a) a p share (walk vs next regs) Least b ≡ w))
+    → Follows (cut_ending vs a p share next regs b trace) w
+open_follows vs agents count a p amount l r next regs b trace share g o w onward =
     let v = valuation_of vs a in
-    let i = k.stretch_there in
-    let here : stretch_of (piece_at b.pieces p) ≡ i = ap stretch_of k.one in
-    let in_order : PieceInOrder (i ∷ []) = subst PieceInOrder k.one (ordered_at b.pieces p k.sound.pieces) in
-    let most : IsAtMost amount (share_value v (i ∷ [])) = subst (λ (ps : Piece). IsAtMost amount (share_value v ps)) k.one (below-false (worth_of vs a (piece_at b.pieces p)) amount high) in
-    let has : HasShare v i.from i.to amount = record { in_order = in_order.0; low = below-false amount (whole (pos 0)) k.low; high = most } in
-    let cut = cut_point_in-least v i.from i.to amount y k.valuation has (ap (λ (j : Interval). cut_point_in v j.from amount) (sym here) ∙ e) in
-    past_follows vs agents a p l r amount next b i y trace h k.then_follows k.sound k.one k.low high cut (ap (λ (j : Interval). walk vs next (cut_on a p amount j y b)) (sym here) ∙ q)
+    let some = part_of b.pieces p (cut_formed agents (map is_held b.pieces) count a p amount l r next g.sound.formed).is_live in
+    let ordered : PieceInOrder (some.first ∷ some.others) = subst PieceInOrder some.is (ordered_at b.pieces p g.sound.pieces) in
+    let can : CanCut v (some.first ∷ some.others) share = record { low = below-false share (whole (pos 0)) o.low; high = below-false (share_value v (some.first ∷ some.others)) share (ap (λ (ps : Piece). below (share_value v ps) share) (sym some.is) ∙ o.high) } in
+    let has = answer_exists v share some.first some.others g.valuation ordered can in
+    let k : IsLeastAnswer (share_value v) (piece_at b.pieces p) share has.answer = subst (λ (ps : Piece). IsLeastAnswer (share_value v) ps share has.answer) (sym some.is) has.least in
+    past_follows vs agents count a p amount l r next regs b trace share g o has.answer k w
+    (λ r. by some.first some.others some.is ordered can has.answer k (onward r).0 (onward r).1)
+  where
+    -- the answer that the walk takes is that one
+    by : (i : Interval) (is : Piece) → piece_at b.pieces p ≡ i ∷ is → PieceInOrder (i ∷ is) → CanCut (valuation_of vs a) (i ∷ is) share → (y : CutAnswer) (k : IsLeastAnswer (worth_of vs a) (piece_at b.pieces p) share y)
+        → InRange (cut_answered (valuation_of vs a) a p share (walk vs next regs) Least b) → cut_answered (valuation_of vs a) a p share (walk vs next regs) Least b ≡ w
+        → InRange (walk vs next regs Least (cut_on a p share y (left_piece k.before k.here y.point) (right_piece k.here y.point k.after) b)) × (walk vs next regs Least (cut_on a p share y (left_piece k.before k.here y.point) (right_piece k.here y.point k.after) b) ≡ w)
+    by i is e ordered can y k range same =
+        let there : walk_on (length b.queries) (least_answer_in (valuation_of vs a) (piece_at b.pieces p) share) (after_answer a p share (walk vs next regs) b) ≡ after_answer a p share (walk vs next regs) b y =
+        on_number (λ (x : Walked Halt). x ≡ after_answer a p share (walk vs next regs) b y) (length b.queries) (least_answer_in (valuation_of vs a) (piece_at b.pieces p) share) (after_answer a p share (walk vs next regs) b)
+        (λ z fits in_range.
+        ap (after_answer a p share (walk vs next regs) b)
+        (one_least (share_value (valuation_of vs a)) (piece_at b.pieces p) share y z k
+        (subst (λ (ps : Piece). IsLeastAnswer (share_value (valuation_of vs a)) ps share z) (sym e)
+        (answer_found (valuation_of vs a) share i is z g.valuation ordered can (ap (λ (ps : Piece). least_answer_in (valuation_of vs a) ps share) (sym e) ∙ fits)))))
+        range in
+        let whole_walk = there
+        ∙ ap (walk vs next regs Least)
+        (part_at (piece_at b.pieces p) k.before k.here k.after y.part b (λ before i after. cut_on a p share y (left_piece before i y.point) (right_piece i y.point after) b) k.parts k.number) in
+        (subst InRange whole_walk range, sym whole_walk ∙ same)
 
-held_follows : (vs : List Valuation) (agents a p l r : ℕ) (amount : Rational) (next : Tree) (b : Board) (trace : List Choice) (h : Halt) → AtHand vs agents a p l r amount next b
-    → (held : Rational) → held ≡ worth_of vs a (piece_at b.pieces p) → (t : Bool) → below held amount ≡ t
-    → (if t then Good (AtCut side.High b) else walk_on (length b.queries) (cut_point_in (valuation_of vs a) (stretch_of (piece_at b.pieces p)).from amount) (at_point vs a p amount next b)) ≡ Good h
-    → Follows (worth_of vs) (Cut a p amount l r next) b trace h
-held_follows vs agents a p l r amount next b trace h k held is true e q =
-    stuck_follows (worth_of vs) (Cut a p amount l r next) b trace side.High choice.High h
-    (run_high (worth_of vs a) a p amount (run (worth_of vs) next) (record { board = b; answers = []; trace = trace }) k.low (ap (λ (x : Rational). below x amount) (sym is) ∙ e)) q
-held_follows vs agents a p l r amount next b trace h k held is false e q =
-    point_follows vs agents a p l r amount next b trace h k (ap (λ (x : Rational). below x amount) (sym is) ∙ e) (cut_point_in (valuation_of vs a) (stretch_of (piece_at b.pieces p)).from amount) refl q
+-- ---- the nodes
+-- a cut of that amount, whatever comes of it
+cut_follows : (vs : List Valuation) (agents count a p : ℕ) (amount : Lin) (l r : ℕ) (next : Tree) (regs : List Rational) (b : Board) (trace : List Choice) (share : Rational) → AtHand vs agents count a p amount l r next b
+    → Follows (cut_ending vs a p share next regs b trace) (cut_walk vs a p share next regs b)
+cut_follows vs agents count a p amount l r next regs b trace share g = by (below share (whole (pos 0))) refl
+  where
+    v : Valuation
+    v = valuation_of vs a
 
-share_follows : (vs : List Valuation) (agents a p l r : ℕ) (amount : Rational) (next : Tree) (b : Board) (trace : List Choice) (h : Halt) → AtHand vs agents a p l r amount next b
-    → (m : Fitting Rational) → share_in (valuation_of vs a) (piece_at b.pieces p) ≡ m → walk_on (length b.queries) m (at_held vs a p amount next b) ≡ Good h → Follows (worth_of vs) (Cut a p amount l r next) b trace h
-share_follows vs agents a p l r amount next b trace h k Unfit e q = cc
-share_follows vs agents a p l r amount next b trace h k (Fitted held) e q =
-    let is = share_in-exact (valuation_of vs a) (piece_at b.pieces p) held k.valuation (piece_all (piece_at b.pieces p) (ordered_at b.pieces p k.sound.pieces)) e in
-    held_follows vs agents a p l r amount next b trace h k held is (below held amount) refl q
+    after_held : Rational → Walked Halt
+    after_held held = if below held share then halt Least (AtCut side.High b) else cut_answered (valuation_of vs a) a p share (walk vs next regs) Least b
 
-low_follows : (vs : List Valuation) → All IsValuation vs → (agents : ℕ) → length vs ≡ agents → (a p l r : ℕ) (amount : Rational) (next : Tree) → Next vs agents next
-    → (b : Board) → Sound agents (Cut a p amount l r next) b → (trace : List Choice) (h : Halt) (t : Bool) → below amount (whole (pos 0)) ≡ t
-    → (if t then Good (AtCut side.Low b) else walk_on (length b.queries) (share_in (valuation_of vs a) (piece_at b.pieces p)) (at_held vs a p amount next b)) ≡ Good h
-    → Follows (worth_of vs) (Cut a p amount l r next) b trace h
-low_follows vs valid agents count a p l r amount next then_follows b s trace h true e q =
-    stuck_follows (worth_of vs) (Cut a p amount l r next) b trace side.Low choice.Low h (run_low (worth_of vs a) a p amount (run (worth_of vs) next) (record { board = b; answers = []; trace = trace }) e) q
-low_follows vs valid agents count a p l r amount next then_follows b s trace h false e q =
-    let formed = cut_formed agents (map is_held b.pieces) a p l r amount next s.formed in
-    let one = one_stretch b.pieces p s.single formed.unused in
-    let there : a - 1 < length vs = omega (arith, agent_below agents a formed.agent, count) in
-    let k : AtHand vs agents a p l r amount next b = record {
-      valuation = All-get_or IsValuation vs (a - 1) (record { ends = []; heights = [] }) there valid;
-      then_follows = then_follows;
+    -- after the share-value of the piece
+    held_walk : Walked Halt
+    held_walk = walk_on (length b.queries) (share_in (valuation_of vs a) (piece_at b.pieces p)) (λ held.
+        if below held share then halt Least (AtCut side.High b) else cut_answered (valuation_of vs a) a p share (walk vs next regs) Least b)
+
+    held_is : (t : Bool) → below (worth_of vs a (piece_at b.pieces p)) share ≡ t
+        → InRange (walk_on (length b.queries) (share_in (valuation_of vs a) (piece_at b.pieces p)) (λ held. if below held share then halt Least (AtCut side.High b) else cut_answered (valuation_of vs a) a p share (walk vs next regs) Least b))
+        → walk_on (length b.queries) (share_in (valuation_of vs a) (piece_at b.pieces p)) (λ held. if below held share then halt Least (AtCut side.High b) else cut_answered (valuation_of vs a) a p share (walk vs next regs) Least b)
+        ≡ (if t then halt Least (AtCut side.High b) else cut_answered (valuation_of vs a) a p share (walk vs next regs) Least b)
+    held_is t e range =
+        on_number (λ (x : Walked Halt). x ≡ (if t then halt Least (AtCut side.High b) else cut_answered (valuation_of vs a) a p share (walk vs next regs) Least b)) (length b.queries) (share_in (valuation_of vs a) (piece_at b.pieces p)) _
+        (λ held fits in_range.
+        ap (λ (u : Bool). if u then halt Least (AtCut side.High b) else cut_answered (valuation_of vs a) a p share (walk vs next regs) Least b)
+        (ap (λ (q : Rational). below q share) (share_exact (valuation_of vs a) b.pieces p held g.valuation g.sound.pieces fits) ∙ e))
+        range
+
+    held_by : below share (whole (pos 0)) ≡ false → (t : Bool) → below (worth_of vs a (piece_at b.pieces p)) share ≡ t
+        → Follows (cut_ending vs a p share next regs b trace) (walk_on (length b.queries) (share_in (valuation_of vs a) (piece_at b.pieces p)) (λ held. if below held share then halt Least (AtCut side.High b) else cut_answered (valuation_of vs a) a p share (walk vs next regs) Least b))
+    held_by low true e =
+        stuck_follows (cut_ending vs a p share next regs b trace) _ side.High _ (run_high (worth_of vs a) a p share (run (worth_of vs) next regs) (state b [] trace) low e)
+        (λ r. sym (held_is true e r))
+    held_by low false e =
+        open_follows vs agents count a p amount l r next regs b trace share g (record { low = low; high = e }) _
+        (λ r. (subst InRange (held_is false e r) r, sym (held_is false e r)))
+
+    by : (t : Bool) → below share (whole (pos 0)) ≡ t → Follows (cut_ending vs a p share next regs b trace) (cut_walk vs a p share next regs b)
+    by true e =
+        stuck_follows (cut_ending vs a p share next regs b trace) (cut_walk vs a p share next regs b) side.Low _ (run_low (worth_of vs a) a p share (run (worth_of vs) next regs) (state b [] trace) e)
+        (λ r. ap (λ (t : Bool). if t then halt Least (AtCut side.Low b) else walk_on (length b.queries) (share_in (valuation_of vs a) (piece_at b.pieces p)) (λ held. if below held share then halt Least (AtCut side.High b) else cut_answered (valuation_of vs a) a p share (walk vs next regs) Least b)) (sym e))
+    by false e =
+        subst (Follows (cut_ending vs a p share next regs b trace))
+        (ap (λ (t : Bool). if t then halt Least (AtCut side.Low b) else walk_on (length b.queries) (share_in (valuation_of vs a) (piece_at b.pieces p)) (λ held. if below held share then halt Least (AtCut side.High b) else cut_answered (valuation_of vs a) a p share (walk vs next regs) Least b)) (sym e))
+        (held_by e (below (worth_of vs a (piece_at b.pieces p)) share) refl)
+
+-- a walk that goes on as another one, where it is in range
+along : (ending : List CutAnswer → Ending) (w x : Walked Halt) → (InRange w → w ≡ x) → Follows ending x → Follows ending w
+along ending w x h f = record {
+  answers = f.answers;
+  over = f.over;
+  least = f.least;
+  same = λ r. f.same (subst InRange (h r) r) ∙ sym (h r);
+}
+
+-- a number that fits is the exact one
+number_is : {A : Type 0} (query : ℕ) (m : Fitting A) (go : A → Walked Halt) (value : A) → ((x : A) → m ≡ Fitted x → x ≡ value) → InRange (walk_on query m go) → walk_on query m go ≡ go value
+number_is query m go value exact r = on_number (λ (x : Walked Halt). x ≡ go value) query m go (λ x fits in_range. ap go (exact x fits)) r
+
+choose_follows : (t : Bool) (f g : List CutAnswer → Ending) (x y : Walked Halt) → Follows f x → Follows g y → Follows (λ ys. if t then f ys else g ys) (if t then x else y)
+choose_follows true f g x y h k = h
+choose_follows false f g x y h k = k
+
+pub follows : (vs : List Valuation) → All IsValuation vs → (agents : ℕ) → length vs ≡ agents → (count : ℕ) (tree : Tree) (regs : List Rational) (b : Board) → Sound agents count tree b → (trace : List Choice)
+    → Follows (λ ys. run (worth_of vs) tree regs (state b ys trace)) (walk vs tree regs Least b)
+follows vs valid agents many count (Ask a p r next) regs b s trace =
+    let v = valuation_of vs a in
+    let x = worth_of vs a (piece_at b.pieces p) in
+    let is = valid_at vs agents a valid many (ask_formed agents (map is_held b.pieces) count a p r next s.formed).agent in
+    along _ _ (walk vs next (regs ++ x ∷ []) Least (ask_on a x b))
+    (number_is (length b.queries) (share_in v (piece_at b.pieces p)) (λ worth. walk vs next (regs ++ worth ∷ []) Least (ask_on a worth b)) x (λ held fits. share_exact v b.pieces p held is s.pieces fits))
+    (follows vs valid agents many (count + 1) next (regs ++ x ∷ []) (ask_on a x b) (sound_ask agents count a p r next b x s) trace)
+follows vs valid agents many count (Set r sum next) regs b s trace =
+    let x = sum_value regs sum.terms in
+    along _ _ (walk vs next (regs ++ x ∷ []) Least b)
+    (number_is (length b.queries) (lin_in regs sum.terms) (λ value. walk vs next (regs ++ value ∷ []) Least b) x (lin_exact regs sum.terms))
+    (follows vs valid agents many (count + 1) next (regs ++ x ∷ []) b (sound_set agents count r sum next b s) trace)
+follows vs valid agents many count (Cut a p amount l r next) regs b s trace =
+    let x = sum_value regs amount.terms in
+    along _ _ (cut_walk vs a p x next regs b)
+    (number_is (length b.queries) (lin_in regs amount.terms) (λ share. walk_cut (valuation_of vs a) a p share (walk vs next regs) Least b) x (lin_exact regs amount.terms))
+    (cut_follows vs agents count a p amount l r next regs b trace x
+    (record {
+      valuation = valid_at vs agents a valid many (cut_formed agents (map is_held b.pieces) count a p amount l r next s.formed).agent;
+      later = λ rs c t. follows vs valid agents many count next rs c t;
       sound = s;
-      stretch_there = one.0;
-      one = one.1;
-      low = e;
-    } in
-    share_follows vs agents a p l r amount next b trace h k (share_in (valuation_of vs a) (piece_at b.pieces p)) refl q
-
-pub follows : (vs : List Valuation) → All IsValuation vs → (agents : ℕ) → length vs ≡ agents → (tree : Tree) (b : Board) → Sound agents tree b → (trace : List Choice) (h : Halt) → walk vs tree b ≡ Good h
-    → Follows (worth_of vs) tree b trace h
-follows vs valid agents count (Cut a p amount l r next) b s trace h q =
-    low_follows vs valid agents count a p l r amount next (follows vs valid agents count next) b s trace h (below amount (whole (pos 0))) refl q
-follows vs valid agents count (Give p a next) b s trace h q =
-    let f = follows vs valid agents count next (give_on p a b) (sound_give agents p a next b s) trace h q in
-    record { answers = f.answers; ends = f.ends; least = f.least; ordered = f.ordered }
-follows vs valid agents count End b s trace h q =
-    subst (Follows (worth_of vs) End b trace) (good_is (AtEnd b) h q)
-    (record { answers = []; ends = refl; least = λ k y z g lt. (let none : None ≡ Some y = g in cc); ordered = s.shares })
+    }))
+follows vs valid agents many count (Join p q r next) regs b s trace =
+    follows vs valid agents many count next regs (join_on p q b) (sound_join agents count p q r next b s) trace
+follows vs valid agents many count (Test left right strict at_yes at_no) regs b s trace =
+    let x = sum_value regs left.terms in
+    let y = sum_value regs right.terms in
+    along _ _ (if goes_yes strict x y then walk vs at_yes regs Least b else walk vs at_no regs Least b)
+    (λ r.
+    let one = number_is (length b.queries) (lin_in regs left.terms) (λ u. walk_on (length b.queries) (lin_in regs right.terms) (λ t. if goes_yes strict u t then walk vs at_yes regs Least b else walk vs at_no regs Least b)) x (lin_exact regs left.terms) r in
+    one ∙ number_is (length b.queries) (lin_in regs right.terms) (λ t. if goes_yes strict x t then walk vs at_yes regs Least b else walk vs at_no regs Least b) y (lin_exact regs right.terms) (subst InRange one r))
+    (choose_follows (goes_yes strict x y) _ _ _ _
+    (follows vs valid agents many count at_yes regs b (sound_yes agents count left right strict at_yes at_no b s) (trace ++ choice.Yes ∷ []))
+    (follows vs valid agents many count at_no regs b (sound_no agents count left right strict at_yes at_no b s) (trace ++ choice.No ∷ [])))
+follows vs valid agents many count (Give p a next) regs b s trace =
+    follows vs valid agents many count next regs (give_on p a b) (sound_give agents count p a next b s) trace
+follows vs valid agents many count End regs b s trace = record { answers = []; over = tt; least = none_given (λ ys. run (worth_of vs) End regs (state b ys trace)); same = λ r. refl }

@@ -1,24 +1,27 @@
--- What is told of the walk is told of the least run, with its share-values.
-use Rattle.std.proofs.Common.{◌≡◌, ◌∙◌, ℕ, zero, suc, ◌<◌, ◌≤◌, ◌++◌, ◌∷◌, List, [], length, map, take, get_or, pos, true, refl, ap, sym, subst, arith, Ok, Err}
+-- A least run exists, and the walk tells it.
+use Rattle.std.proofs.Common.{◌≡◌, ◌∙◌, suc, ◌∷◌, List, [], length, map, refl, ap, sym, subst, arith}
+use Rattle.std.specs.Prelude.{⊤}
 use Rattle.std.specs.List.{All}
-use Rattle.std.specs.Prelude.{IsTrue, IfOk}
-use Rattle.std.specs.declared.result.Result.{Result}
-use Rattle.slice_num.specs.Rational.{Rational, whole}
+use Rattle.slice_num.specs.Rational.{Rational}
 use Rattle.slice_num.specs.Fitting.{Fitting, Fitted, Unfit, next-out}
-use Rattle.slice_num.specs.Valuation.{Valuation, IsValuation, share_value, cake}
-use Rattle.slice_num.specs.declared.choice.Side.{Side}
-use Rattle.slice_num.proofs.FieldLaws.{at_most_self, whole_at_most}
-use Rattle.std.proofs.lemmas.Int.{ints}
-use Rattle.slice_run.specs.Core.{Tree, is_formed}
-use Rattle.slice_run.specs.Pieces.{Piece, joined}
-use Rattle.slice_run.specs.Run.{Board, first_board, Ending, Done, Stuck, Few, Bad, Many, run, start}
-use Rattle.slice_run.specs.Walk.{Walked, Good, Stopped, walk_on, then_walk, Halt, AtEnd, AtCut, walk, row_in, values_in, Told, Divided, Halted, tell, least_walk, worth_of, Tells, IsBad, IsLeastRun, TellsValues}
-use Rattle.slice_run.specs.Division.{AreDisjoint, MakeUpCake}
-use Rattle.slice_run.specs.RunLaws.{RunsDivide, IsDivision}
-use Rattle.slice_run.specs.Outcomes.{Divides}
-use Rattle.slice_run.proofs.Exact.{share_in-exact}
-use Rattle.slice_run.proofs.Ordered.{AllOrdered, piece_all, ordered_none}
-use Rattle.slice_run.proofs.Follows.{Sound, Follows, Ends, follows}
+use Rattle.slice_num.specs.Valuation.{Valuation, IsValuation, IsValuationList, share_value}
+use Rattle.slice_core.specs.Tree.{Core}
+use Rattle.slice_core.specs.WellFormed.{IsWellFormed}
+use Rattle.slice_num.specs.Pieces.{joined}
+use Rattle.slice_core.specs.Run.{Piece, Board, first_board, Ending, Done, Stuck, Few, Bad, Many}
+use Rattle.slice_num.specs.declared.cut_answer.CutAnswer.{CutAnswer}
+use Rattle.slice_run.specs.Walk.{Walked, Good, Refused, walk_on, then_walk, InRange, Least, Halt, AtEnd, AtCut, walk, row_in, values_in, Told, Divided, Halted, tell, outcome}
+use Rattle.slice_run.specs.RunLaws.{run_on, Tells, TellsValues, IsTold, AreLeast, IsLeastTold, LeastRunsExist, LeastWalksAreLeastRuns}
+use Rattle.slice_run.specs.declared.outcome.RunFault.TheVariants.{Overflow, BadAnswer, TooFewAnswers, TooManyAnswers, Memory}
+use Rattle.slice_step.proofs.Exact.{share_in-exact}
+use Rattle.slice_run.proofs.Ordered.{AllOrdered}
+use Rattle.slice_step.proofs.InOrder.{piece_all}
+use Rattle.slice_core.proofs.FormedLaws.{core_formed}
+use Rattle.slice_run.proofs.Sound.{sound_first}
+use Rattle.slice_run.proofs.Shown.{shown}
+use Rattle.slice_run.proofs.RunSteps.{state, OrderedEnd, run_ordered}
+use Rattle.slice_run.proofs.Follows.{IsOver, Follows, follows}
+use Rattle.slice_core.specs.Measures.{length_of, worth_of}
 
 -- ---- the share-values
 row_exact : (v : Valuation) (shares : List Piece) (r : List Rational) → IsValuation v → AllOrdered shares → row_in v shares ≡ Fitted r → r ≡ map (share_value v) shares
@@ -43,82 +46,99 @@ rows_exact shares (v ∷ vs) rs valid h q =
     let all : one.first ∷ others.first ≡ rs = (let e = others.then_is in cc) in
     sym all ∙ (λ i. first i ∷ rest i)
 
--- ---- what is told
-tells_end : (e : Ending) (b : Board) (values : List (List Rational)) → Ends e (AtEnd b) → Tells e (Divided b.queries b.shares (joined b.pieces) values)
-tells_end (Done s) b values h = (ap (λ x. x.queries) h, ap (λ x. x.shares) h, ap (λ x. joined x.pieces) h)
-tells_end (Stuck from s) b values h = absurd h
-tells_end (Few q) b values h = absurd h
-tells_end (Bad q) b values h = absurd h
-tells_end Many b values h = absurd h
-
-tells_cut : (e : Ending) (b : Board) (at : Side) → Ends e (AtCut at b) → Tells e (Halted b.queries (length b.queries) at)
-tells_cut (Done s) b at h = absurd h
-tells_cut (Stuck from s) b at h = (ap (λ x. x.queries) h.0, ap (λ x. length x.queries) h.0, h.1)
-tells_cut (Few q) b at h = absurd h
-tells_cut (Bad q) b at h = absurd h
-tells_cut Many b at h = absurd h
-
--- the cake, uncut
-sound_first : (agents n : ℕ) (tree : Tree) → IsTrue (is_formed agents (true ∷ []) tree) → Sound agents tree (first_board agents n)
-sound_first agents n tree formed = record {
-  formed = formed;
-  single = single;
-  pieces = (((at_most_self (whole (pos 0)), whole_at_most (pos 0) (pos n) (omega (arith, ints))), tt), tt);
-  shares = ordered_none agents;
-}
+-- ---- what is told of an end
+-- a run that ended so, and whose walk shows it, is told so
+pub told_shown : (vs : List Valuation) → All IsValuation vs → (e : Ending) (w : Walked Halt) → OrderedEnd e → (InRange w → shown e ≡ w) → IsTold vs e (then_walk w (tell vs))
+told_shown vs valid e (Refused (Overflow q)) ordered h = tt
+told_shown vs valid e (Refused (BadAnswer q)) ordered h = by e (h tt)
   where
-    single : (k : ℕ) (d : Piece) → k < 1 → length (get_or ((cake n ∷ []) ∷ []) k d) ≤ 1
-    single zero d l = omega arith
-    single (suc k) d l = absurd (omega (arith, l))
-
-pub record IsTold (vs : List Valuation) (tree : Tree) (agents n : ℕ) (t : Told) : Type 0 where
-  pub least : IsLeastRun (λ ys. run (worth_of vs) tree (start agents n ys)) t
-  pub values : TellsValues vs t
-
-told_halt : (vs : List Valuation) → All IsValuation vs → (tree : Tree) (agents n : ℕ) (h : Halt) (t : Told) → Follows (worth_of vs) tree (first_board agents n) [] h → tell vs h ≡ Good t → IsTold vs tree agents n t
-told_halt vs valid tree agents n (AtEnd b) t f q = by (values_in vs b.shares) refl q
+    by : (e : Ending) → shown e ≡ Refused (BadAnswer q) → e ≡ Bad q
+    by (Done s) k = cc
+    by (Stuck at s) k = cc
+    by (Few n) k = cc
+    by (Bad n) k = cc
+    by Many k = cc
+told_shown vs valid e (Refused (TooFewAnswers q)) ordered h = by e (h tt)
   where
-    by : (m : Fitting (List (List Rational))) → values_in vs b.shares ≡ m → walk_on (length b.queries) m (λ values. Good (Divided b.queries b.shares (joined b.pieces) values)) ≡ Good t → IsTold vs tree agents n t
-    by Unfit e k = cc
-    by (Fitted values) e k =
-        let is : Divided b.queries b.shares (joined b.pieces) values ≡ t = cc in
-        subst (IsTold vs tree agents n) is
-        (record {
-          least = record { answers = f.answers; told = tells_end _ b values f.ends; least = f.least };
-          values = rows_exact b.shares vs values valid f.ordered e;
-        })
-told_halt vs valid tree agents n (AtCut at b) t f q =
-    let is : Halted b.queries (length b.queries) at ≡ t = cc in
-    subst (IsTold vs tree agents n) is (record { least = record { answers = f.answers; told = tells_cut _ b at f.ends; least = f.least }; values = tt })
-
-pub least_run : (vs : List Valuation) → All IsValuation vs → (agents : ℕ) → length vs ≡ agents → (tree : Tree) → IsTrue (is_formed agents (true ∷ []) tree) → (n : ℕ) (t : Told) → least_walk vs tree (first_board agents n) ≡ Good t
-    → IsTold vs tree agents n t
-least_run vs valid agents count tree formed n t q = by (walk vs tree (first_board agents n)) refl q
+    by : (e : Ending) → shown e ≡ Refused (TooFewAnswers q) → e ≡ Few q
+    by (Done s) k = cc
+    by (Stuck at s) k = cc
+    by (Few n) k = cc
+    by (Bad n) k = cc
+    by Many k = cc
+told_shown vs valid e (Refused TooManyAnswers) ordered h = by e (h tt)
   where
-    by : (w : Walked Halt) → walk vs tree (first_board agents n) ≡ w → then_walk w (tell vs) ≡ Good t → IsTold vs tree agents n t
-    by (Stopped query) e k = cc
-    by (Good h) e k = told_halt vs valid tree agents n h t (follows vs valid agents count tree (first_board agents n) (sound_first agents n tree formed) [] h e) k
-
--- a division that is told is that of a run
-pub told_divides : (vs : List Valuation) (tree : Tree) (agents n : ℕ) (t : Told) → RunsDivide → IsTrue (is_formed agents (true ∷ []) tree) → IsLeastRun (λ ys. run (worth_of vs) tree (start agents n ys)) t → Divides n t
-told_divides vs tree agents n t divide formed l = by (run (worth_of vs) tree (start agents n l.answers)) t l.told (divide (worth_of vs) agents n tree l.answers formed)
+    by : (e : Ending) → shown e ≡ Refused TooManyAnswers → e ≡ Many
+    by (Done s) k = cc
+    by (Stuck at s) k = cc
+    by (Few n) k = cc
+    by (Bad n) k = cc
+    by Many k = cc
+told_shown vs valid e (Refused Memory) ordered h = by e (h tt)
   where
-    by : (e : Ending) (u : Told) → Tells e u → IsDivision n e → Divides n u
-    by (Done s) (Divided queries shares left values) h d = subst (λ (x : List Piece × Piece). AreDisjoint x.0 x.1 × MakeUpCake n x.0 x.1) (λ i. (h.1 i, h.2 i)) d
-    by e (Halted queries query at) h d = tt
-    by (Stuck from s) (Divided queries shares left values) h d = absurd h
-    by (Few q) (Divided queries shares left values) h d = absurd h
-    by (Bad q) (Divided queries shares left values) h d = absurd h
-    by Many (Divided queries shares left values) h d = absurd h
+    by : (e : Ending) → shown e ≡ Refused Memory → ⊥
+    by (Done s) k = cc
+    by (Stuck at s) k = cc
+    by (Few n) k = cc
+    by (Bad n) k = cc
+    by Many k = cc
+told_shown vs valid e (Good (AtCut at b)) ordered h = by e (h tt)
+  where
+    by : (e : Ending) → shown e ≡ Good (AtCut at b) → Tells e (Halted b.queries (length b.queries) at) × ⊤
+    by (Done s) k = cc
+    by (Stuck from s) k =
+        let board : s.board ≡ b = cc in
+        let side : from ≡ at = cc in
+        ((ap (λ x. x.queries) board, ap (λ x. length x.queries) board, side), tt)
+    by (Few n) k = cc
+    by (Bad n) k = cc
+    by Many k = cc
+told_shown vs valid e (Good (AtEnd b)) ordered h = by e ordered (h tt) (values_in vs b.shares) refl
+  where
+    by : (e : Ending) → OrderedEnd e → shown e ≡ Good (AtEnd b) → (m : Fitting (List (List Rational))) → values_in vs b.shares ≡ m
+        → IsTold vs e (walk_on (length b.queries) m (λ values. Good (Divided b.queries b.shares (joined b.pieces) values)))
+    by (Done s) order k Unfit f = tt
+    by (Done s) order k (Fitted values) f =
+        let board : s.board ≡ b = cc in
+        let shares : AllOrdered b.shares = subst (λ (x : Board). AllOrdered x.shares) board order in
+        ((ap (λ x. x.queries) board, ap (λ x. x.shares) board, ap (λ x. joined x.pieces) board), rows_exact b.shares vs values valid shares f)
+    by (Stuck at s) order k m f = cc
+    by (Few n) order k m f = cc
+    by (Bad n) order k m f = cc
+    by Many order k m f = cc
 
-pub if_ok_then : {T E : Type 0} (r : Result T E) (P Q : T → Type 0) → IfOk r P → ((x : T) → P x → Q x) → IfOk r Q
-if_ok_then (Ok x) P Q h f = f x h
-if_ok_then (Err e) P Q h f = tt
+-- a run that is over can be told
+over_told : (vs : List Valuation) (e : Ending) → IsOver e → (t : Told) × (Tells e t × TellsValues vs t)
+over_told vs (Done s) h = (Divided s.board.queries s.board.shares (joined s.board.pieces) (map (λ v. map (share_value v) s.board.shares) vs), ((refl, refl, refl), refl))
+over_told vs (Stuck at s) h = (Halted s.board.queries (length s.board.queries) at, ((refl, refl, refl), tt))
+over_told vs (Few q) h = absurd h
+over_told vs (Bad q) h = absurd h
+over_told vs Many h = absurd h
 
--- runs that end alike have the same least run
-pub least_run_along : (f g : List Rational → Ending) (t : Told) → ((ys : List Rational) → f ys ≡ g ys) → IsLeastRun f t → IsLeastRun g t
-least_run_along f g t e l = record {
-  answers = l.answers;
-  told = subst (λ (x : Ending). Tells x t) (e l.answers) l.told;
-  least = λ k y z h lt. subst IsBad (e (take k l.answers ++ z ∷ [])) (l.least k y z h lt);
-}
+-- ---- the least run of a core
+follows_core : (vs : List Valuation) (core : Core) → IsWellFormed core → IsValuationList core.agents vs → Follows (run_on vs core) (walk vs core.tree [] Least (first_board core.agents (length_of vs)))
+follows_core vs core formed list = follows vs list.valuations core.agents list.one_each 0 core.tree [] (first_board core.agents (length_of vs)) (sound_first core.agents (length_of vs) core.tree (core_formed core formed)) []
+
+pub ordered_core : (vs : List Valuation) (core : Core) (ys : List CutAnswer) → IsWellFormed core → OrderedEnd (run_on vs core ys)
+ordered_core vs core ys formed = run_ordered (worth_of vs) core.agents 0 core.tree [] (state (first_board core.agents (length_of vs)) ys []) (sound_first core.agents (length_of vs) core.tree (core_formed core formed))
+
+pub least_runs_exist : LeastRunsExist
+least_runs_exist vs core formed list =
+    let f = follows_core vs core formed list in
+    let t = over_told vs (run_on vs core f.answers) f.over in
+    record { told = t.0; least = record { answers = f.answers; told = t.1.0; least = f.least }; values = t.1.1 }
+
+-- what is told of a run that is over, with least answers, is told of the least run
+least_told : (vs : List Valuation) (ending : List CutAnswer → Ending) (ys : List CutAnswer) → IsOver (ending ys) → AreLeast ending ys → (w : Walked Told) → IsTold vs (ending ys) w → IsLeastTold vs ending w
+least_told vs ending ys over least (Good t) h = (record { answers = ys; told = h.0; least = least }, h.1)
+least_told vs ending ys over least (Refused (Overflow q)) h = tt
+least_told vs ending ys over least (Refused (BadAnswer q)) h = subst IsOver h over
+least_told vs ending ys over least (Refused (TooFewAnswers q)) h = subst IsOver h over
+least_told vs ending ys over least (Refused TooManyAnswers) h = subst IsOver h over
+least_told vs ending ys over least (Refused Memory) h = h
+
+pub least_walks : LeastWalksAreLeastRuns
+least_walks vs core formed list =
+    let f = follows_core vs core formed list in
+    least_told vs (run_on vs core) f.answers f.over f.least (outcome vs core Least)
+    (told_shown vs list.valuations (run_on vs core f.answers) (walk vs core.tree [] Least (first_board core.agents (length_of vs))) (ordered_core vs core f.answers formed) f.same)

@@ -1,6 +1,8 @@
 -- What using a piece changes.
 use Rattle.std.proofs.Common.{◌≡◌, ◌+◌, ◌-◌, ◌≤◌, ◌++◌, ◌∷◌, ℕ, zero, suc, List, [], length, arith, refl, ap, append_assoc, append-nil, length-append}
-use Rattle.slice_run.specs.Pieces.{Piece, Ledger, piece_at, emptied, joined, with_rest}
+use Rattle.slice_num.specs.Pieces.{piece_at, emptied, joined}
+use Rattle.slice_core.specs.Run.{Piece}
+use Rattle.slice_run.specs.Pieces.{Ledger, with_rest}
 
 -- the stretches of a piece that was used are no longer among the others
 pub length-joined-emptied : (pieces : List Piece) (p : ℕ) → length (joined (emptied pieces p)) + length (piece_at pieces p) ≡ length (joined pieces)
@@ -30,3 +32,9 @@ room_back pieces rest p back spare r b h = omega (arith, length-joined-emptied p
 
 pub room_rest : (pieces rest : List Piece) (p : ℕ) (back : Piece) (spare : ℕ) → rest ≡ emptied pieces p → back ≡ piece_at pieces p → length (joined pieces) ≤ spare → length (joined rest) ≤ spare - length back
 room_rest pieces rest p back spare r b h = omega (arith, length-joined-emptied pieces p, ap length b, ap (λ xs. length (joined xs)) r)
+
+-- room is kept for two pieces that were taken out, and then for the others
+pub room_two : (pieces one two : List Piece) (p q : ℕ) (first second : Piece) (spare : ℕ) → one ≡ emptied pieces p → two ≡ emptied one q → first ≡ piece_at pieces p → second ≡ piece_at one q → length (joined pieces) ≤ spare
+    → length first + (length second + length (joined two)) ≤ spare
+room_two pieces one two p q first second spare e f b a h =
+    omega (arith, length-joined-emptied pieces p, length-joined-emptied one q, ap length b, ap length a, ap (λ (xs : List Piece). length (joined xs)) e, ap (λ (xs : List Piece). length (joined xs)) f)

@@ -4,12 +4,12 @@ use Rattle.std.specs.Prelude.{slice_get}
 use Rattle.slice_num.specs.Rational.{Rational}
 use Rattle.slice_num.specs.Fitting.{Fitting, Fitted, Unfit, next}
 use Rattle.slice_num.specs.Valuation.{Valuation}
-use Rattle.slice_run.specs.Arithmetic.{share_in}
-use Rattle.slice_run.specs.Pieces.{Piece}
+use Rattle.slice_step.specs.Arithmetic.{share_in}
+use Rattle.slice_core.specs.Run.{Piece}
 use Rattle.slice_run.specs.Walk.{row_in, values_in}
 use Rattle.slice_run.specs.Outcomes.{ValueFault}
 use Rattle.slice_run.specs.declared.outcome.RunFault.{RunFault}
-use Rattle.slice_run.specs.declared.outcome.RunFault.TheVariants.{Overflow, Memory}
+use Rattle.slice_run.specs.declared.outcome.RunFault.TheVariants.{Overflow, BadAnswer, TooFewAnswers, TooManyAnswers, Memory}
 
 abbrev pub row_from : Valuation → List Rational → List Piece → Fitting (List Rational)
 row_from v row [] = Fitted row
@@ -78,8 +78,14 @@ rows_more shares rows vs i v row h e = sym (rows_step shares rows vs i v h ∙ a
 pub rows_fault : (query : ℕ) (f : RunFault) (shares : List Piece) (rows : List (List Rational)) (vs : List Valuation) (i : ℕ) (v : Valuation) → slice_get vs (i + 1 - 1) ≡ Some v → ValueFault query f (row_in v shares)
     → ValueFault query f (rows_from shares rows (drop i vs))
 rows_fault query (Overflow q) shares rows vs i v h e = (e.0, rows_step shares rows vs i v h ∙ ap (λ m. next m (λ r. rows_from shares (rows ++ r ∷ []) (drop (i + 1) vs))) e.1)
+rows_fault query (BadAnswer q) shares rows vs i v h e = absurd e
+rows_fault query (TooFewAnswers q) shares rows vs i v h e = absurd e
+rows_fault query TooManyAnswers shares rows vs i v h e = absurd e
 rows_fault query Memory shares rows vs i v h e = tt
 
 pub value_fault_along : {A : Type 0} (query : ℕ) (f : RunFault) (m n : Fitting A) → m ≡ n → ValueFault query f m → ValueFault query f n
 value_fault_along query (Overflow q) m n e h = (h.0, sym e ∙ h.1)
+value_fault_along query (BadAnswer q) m n e h = absurd h
+value_fault_along query (TooFewAnswers q) m n e h = absurd h
+value_fault_along query TooManyAnswers m n e h = absurd h
 value_fault_along query Memory m n e h = tt

@@ -1,60 +1,102 @@
--- The least run in the order in which its numbers are made: it stops at the first number that doesn't fit.
-use Rattle.std.specs.Prelude.{◌≡◌, ℕ, ◌-◌, pos, if◌then◌else◌, ⊤, List, [], ◌∷◌, ◌++◌, length, map, slice_get, slice_index_or, take, Some}
-use Rattle.slice_num.specs.Rational.{Rational, whole, IsBelow}
+-- A run in the order in which its numbers are made: it stops at the first number that doesn't fit.
+use Rattle.std.specs.Prelude.{ℕ, pos, if◌then◌else◌, ⊤, List, [], ◌∷◌, ◌++◌, length}
+use Rattle.slice_num.specs.Rational.{Rational, whole}
 use Rattle.slice_num.specs.Fitting.{Fitting, Fitted, Unfit, next, below}
-use Rattle.slice_num.specs.Valuation.{Valuation, cake, cake_length, share_value}
-use Rattle.slice_num.specs.declared.interval.Interval.{Interval}
+use Rattle.slice_num.specs.Valuation.{Valuation}
 use Rattle.slice_num.specs.declared.choice.Side.{Side}
 use Rattle.slice_num.specs.declared.choice.Side.TheVariants as side
-use Rattle.slice_run.specs.Arithmetic.{share_in, cut_point_in}
-use Rattle.slice_run.specs.Core.{Core, Tree, Cut, Give, End}
-use Rattle.slice_run.specs.Pieces.{Piece, piece_at, joined}
-use Rattle.slice_run.specs.Run.{Board, Worth, Ending, Done, Stuck, Few, Bad, Many, cut_on, give_on, run, start, first_board}
-use Rattle.slice_run.specs.declared.outcome.Query.{Query}
+use Rattle.slice_core.specs.Measures.{valuation_of, length_of}
+use Rattle.slice_core.specs.Tree.{Tree, Core, Ask, Set, Cut, Join, Test, Give, End}
+use Rattle.slice_num.specs.Pieces.{piece_at, joined, with_part}
+use Rattle.slice_core.specs.Run.{Piece, Board, first_board, ask_on, cut_on, join_on, give_on, left_piece, right_piece, goes_yes}
+use Rattle.slice_core.specs.declared.query.Query.{Query}
+use Rattle.slice_num.specs.declared.cut_answer.CutAnswer.{CutAnswer}
+use Rattle.slice_step.specs.Arithmetic.{share_in, least_answer_in, is_right_in}
+use Rattle.slice_run.specs.Sums.{lin_in}
+use Rattle.slice_run.specs.declared.outcome.RunFault.{RunFault}
+use Rattle.slice_run.specs.declared.outcome.RunFault.TheVariants.{Overflow, BadAnswer, TooFewAnswers, TooManyAnswers, Memory}
 
--- what a walk comes to, or the query to which the first number belongs that doesn't fit
+-- what a walk comes to, or why it was given up
 pub data Walked (A : Type 0) : Type 0 where
   Good : A → Walked A
-  Stopped : (query : ℕ) → Walked A
+  Refused : (fault : RunFault) → Walked A
 
 -- what follows a number of that query
 abbrev pub walk_on : {A B : Type 0} → ℕ → Fitting A → (A → Walked B) → Walked B
 walk_on query (Fitted x) go = go x
-walk_on query Unfit go = Stopped query
+walk_on query Unfit go = Refused (Overflow query)
 
 -- what follows a walk that came to its end
 abbrev pub then_walk : {A B : Type 0} → Walked A → (A → Walked B) → Walked B
 then_walk (Good x) go = go x
-then_walk (Stopped query) go = Stopped query
+then_walk (Refused fault) go = Refused fault
+
+-- no number stopped the walk
+abbrev pub InRange : {A : Type 0} → Walked A → Type 0
+InRange (Good x) = ⊤
+InRange (Refused (Overflow query)) = ⊥
+InRange (Refused (BadAnswer query)) = ⊤
+InRange (Refused (TooFewAnswers query)) = ⊤
+InRange (Refused TooManyAnswers) = ⊤
+InRange (Refused Memory) = ⊤
+
+-- who answers the cuts: the least right answers are taken, or those that are left of a list
+pub data Answers : Type 0 where
+  Least : Answers
+  Given : (left : List CutAnswer) → Answers
 
 -- where a walk halts: at the end, or at a cut that has no right answer
 pub data Halt : Type 0 where
   AtEnd : (board : Board) → Halt
   AtCut : (at : Side) (board : Board) → Halt
 
--- the valuation of agent a; agents are numbered from 1
-abbrev pub valuation_of : List Valuation → ℕ → Valuation
-valuation_of vs a = slice_index_or vs (a - 1) (record { ends = []; heights = [] })
+-- a walk that halts, unless answers remain
+abbrev pub halt : Answers → Halt → Walked Halt
+halt Least h = Good h
+halt (Given []) h = Good h
+halt (Given (y ∷ ys)) h = Refused TooManyAnswers
 
--- the first stretch of a piece
-abbrev pub stretch_of : Piece → Interval
-stretch_of [] = cake 0
-stretch_of (i ∷ is) = i
+-- what follows a query's answers and board
+abbrev pub Onward : Type 0
+Onward = Answers → Board → Walked Halt
 
--- a cut: the amount is compared with 0, then with the piece's share-value, and then the least right point is taken
-abbrev pub walk_cut : Valuation → ℕ → ℕ → Rational → (Board → Walked Halt) → Board → Walked Halt
-walk_cut v a p amount go b =
-    if below amount (whole (pos 0)) then Good (AtCut side.Low b)
+-- the board after the cut was answered so; the same where the piece has no such part
+abbrev pub cut_board : ℕ → ℕ → Rational → CutAnswer → Board → Board
+cut_board a p amount y b =
+    with_part [] (piece_at b.pieces p) y.part b (λ before i after. cut_on a p amount y (left_piece before i y.point) (right_piece i y.point after) b)
+
+-- a cut that has a right answer takes the least one, or the next of the list, which is refused where it is wrong
+abbrev pub cut_answered : Valuation → ℕ → ℕ → Rational → Onward → Answers → Board → Walked Halt
+cut_answered v a p amount go Least b =
+    walk_on (length b.queries) (least_answer_in v (piece_at b.pieces p) amount) (λ y. go Least (cut_board a p amount y b))
+cut_answered v a p amount go (Given []) b = Refused (TooFewAnswers (length b.queries))
+cut_answered v a p amount go (Given (y ∷ ys)) b =
+    walk_on (length b.queries) (is_right_in v (piece_at b.pieces p) amount y) (λ right.
+    if right then go (Given ys) (cut_board a p amount y b) else Refused (BadAnswer (length b.queries)))
+
+-- a cut: the amount is compared with 0, then with the piece's share-value
+abbrev pub walk_cut : Valuation → ℕ → ℕ → Rational → Onward → Answers → Board → Walked Halt
+walk_cut v a p amount go answers b =
+    if below amount (whole (pos 0)) then halt answers (AtCut side.Low b)
     else walk_on (length b.queries) (share_in v (piece_at b.pieces p)) (λ held.
-    if below held amount then Good (AtCut side.High b)
-    else walk_on (length b.queries) (cut_point_in v (stretch_of (piece_at b.pieces p)).from amount) (λ y.
-    go (cut_on a p amount (stretch_of (piece_at b.pieces p)) y b)))
+    if below held amount then halt answers (AtCut side.High b)
+    else cut_answered v a p amount go answers b)
 
--- the nodes in order, from a board on
-abbrev pub walk : List Valuation → Tree → Board → Walked Halt
-walk vs (Cut a p amount l r next) b = walk_cut (valuation_of vs a) a p amount (walk vs next) b
-walk vs (Give p a next) b = walk vs next (give_on p a b)
-walk vs End b = Good (AtEnd b)
+-- the nodes in order, from a board on, where the registers hold these numbers
+abbrev pub walk : List Valuation → Tree → List Rational → Answers → Board → Walked Halt
+walk vs (Ask a p r next) regs answers b =
+    walk_on (length b.queries) (share_in (valuation_of vs a) (piece_at b.pieces p)) (λ worth. walk vs next (regs ++ worth ∷ []) answers (ask_on a worth b))
+walk vs (Set r sum next) regs answers b =
+    walk_on (length b.queries) (lin_in regs sum.terms) (λ value. walk vs next (regs ++ value ∷ []) answers b)
+walk vs (Cut a p amount l r next) regs answers b =
+    walk_on (length b.queries) (lin_in regs amount.terms) (λ share. walk_cut (valuation_of vs a) a p share (walk vs next regs) answers b)
+walk vs (Join p q r next) regs answers b = walk vs next regs answers (join_on p q b)
+walk vs (Test left right strict at_yes at_no) regs answers b =
+    walk_on (length b.queries) (lin_in regs left.terms) (λ x.
+    walk_on (length b.queries) (lin_in regs right.terms) (λ y.
+    if goes_yes strict x y then walk vs at_yes regs answers b else walk vs at_no regs answers b))
+walk vs (Give p a next) regs answers b = walk vs next regs answers (give_on p a b)
+walk vs End regs answers b = halt answers (AtEnd b)
 
 -- an agent's share-values of all shares, in their order
 abbrev pub row_in : Valuation → List Piece → Fitting (List Rational)
@@ -78,55 +120,6 @@ tell vs (AtEnd b) =
     walk_on (length b.queries) (values_in vs b.shares) (λ values. Good (Divided b.queries b.shares (joined b.pieces) values))
 tell vs (AtCut at b) = Good (Halted b.queries (length b.queries) at)
 
--- what is told of the least run of these nodes, from a board on
-abbrev pub least_walk : List Valuation → Tree → Board → Walked Told
-least_walk vs tree b = then_walk (walk vs tree b) (tell vs)
-
--- the length of the cake, which all valuations share
-abbrev pub length_of : List Valuation → ℕ
-length_of [] = 0
-length_of (v ∷ vs) = cake_length v
-
--- what is told of the least run of a core, from the uncut cake
-abbrev pub least_outcome : List Valuation → Core → Walked Told
-least_outcome vs core = least_walk vs core.tree (first_board core.agents (length_of vs))
-
--- ---- what the least run is
-
--- what each agent's valuation makes a piece worth
-abbrev pub worth_of : List Valuation → Worth
-worth_of vs a piece = share_value (valuation_of vs a) piece
-
--- a run that ends so is told so
-abbrev pub Tells : Ending → Told → Type 0
-Tells (Done s) (Divided queries shares left values) = (s.board.queries ≡ queries) × (s.board.shares ≡ shares) × (joined s.board.pieces ≡ left)
-Tells (Done s) (Halted queries query at) = ⊥
-Tells (Stuck side s) (Divided queries shares left values) = ⊥
-Tells (Stuck side s) (Halted queries query at) = (s.board.queries ≡ queries) × (length s.board.queries ≡ query) × (side ≡ at)
-Tells (Few query) t = ⊥
-Tells (Bad query) t = ⊥
-Tells Many t = ⊥
-
--- a run that was refused for a wrong answer
-abbrev pub IsBad : Ending → Type 0
-IsBad (Done s) = ⊥
-IsBad (Stuck side s) = ⊥
-IsBad (Few query) = ⊥
-IsBad (Bad query) = ⊤
-IsBad Many = ⊥
-
--- `ending` tells how the run with a list of answers ends. With these it is told so, and a smaller point in the place of
--- any answer is refused: each is the least right one
-pub record IsLeastRun (ending : List Rational → Ending) (t : Told) : Type 0 where
-  pub answers : List Rational
-  pub told : Tells (ending answers) t
-  pub least : (k : ℕ) (y z : Rational) → slice_get answers k ≡ Some y → IsBelow z y → IsBad (ending (take k answers ++ z ∷ []))
-
--- this is told of the least run of a core on these valuations
-abbrev pub IsLeastRunOf : List Valuation → Core → Told → Type 0
-IsLeastRunOf vs core t = IsLeastRun (λ ys. run (worth_of vs) core.tree (start core.agents (length_of vs) ys)) t
-
--- the values that are told are the share-values
-abbrev pub TellsValues : List Valuation → Told → Type 0
-TellsValues vs (Divided queries shares left values) = values ≡ map (λ v. map (share_value v) shares) vs
-TellsValues vs (Halted queries query at) = ⊤
+-- what is told of the run of a core, from the uncut cake
+abbrev pub outcome : List Valuation → Core → Answers → Walked Told
+outcome vs core answers = then_walk (walk vs core.tree [] answers (first_board core.agents (length_of vs))) (tell vs)

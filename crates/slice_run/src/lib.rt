@@ -1,31 +1,26 @@
-//! Runs of a core on step valuations, exact to the last fraction.
+//! Runs of a core on valuations by steps, exact to the last fraction.
 //!
-//! `read_valuations` reads what the agents value, a `Core` is what a protocol does with numbers in place of names,
-//! `run_least` runs it, and an `Outcome` tells what came of it. A `Piece` of the cake must be spent, and a `Book` keeps
-//! who got it. Amounts and share-values are fractions of 1, where 1 is the whole cake; points are positions on the cake,
-//! from 0 to its length. No number is ever rounded: a run whose numbers don't fit is given up.
+//! `run_least` runs a core, a protocol over numbers in place of names, and answers each cut by the least right answer;
+//! `replay` takes answers that are given; an `Outcome` tells what came of it. Amounts and share-values are fractions of
+//! 1, where 1 is the whole cake; points are positions on the cake, from 0 to its length. No number is ever rounded: a run
+//! whose numbers don't fit is given up.
 #![tactic(auto)]
 
-pub mod book;
-pub mod core_tree;
+mod answers;
 mod laws;
 pub mod outcome;
-pub mod piece;
 mod pieces;
 pub mod run;
+mod sums;
 mod table;
-pub mod valuation;
-pub mod valuation_file;
 mod values;
 
-pub use book::Book;
-pub use core_tree::{Core, Node};
-pub use laws::{least_runs_are_unique, runs_divide_the_cake};
-pub use outcome::{Finish, Outcome, Query, QueryKind, RunFault};
-pub use piece::{Back, Piece};
-pub use run::run_least;
-pub use valuation::{Valuation, Valuations, cuts_are_least, values_are_exact};
-pub use valuation_file::{ValuationFault, read_valuations};
+pub use laws::{
+    given_walks_are_runs, least_runs_are_unique, least_runs_exist, least_walks_are_least_runs,
+};
+pub use outcome::{Finish, Outcome, RunFault};
+pub use run::{replay, run_least};
+pub use slice_core::{CutAnswer, Query, QueryKind};
 
 #[cfg(test)]
 mod tests;

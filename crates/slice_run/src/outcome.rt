@@ -1,21 +1,7 @@
 //! What a run comes to.
-use crate::book::Book;
+use slice_core::Query;
 use slice_num::{Frac, Side};
-
-/// What an agent was asked, after Robertson and Webb.
-#[derive(Clone, Copy, Debug, PartialEq, Eq)]
-pub enum QueryKind {
-    /// A point of a piece such that the part before it is worth the amount, as a share-value (a fraction of 1).
-    Cut { amount: Frac },
-}
-
-/// A query that was answered. Agents are numbered from 1, and a cut is answered by a point on the cake.
-#[derive(Clone, Copy, Debug, PartialEq, Eq)]
-pub struct Query {
-    pub agent: u32,
-    pub kind: QueryKind,
-    pub answer: Frac,
-}
+use slice_piece::Book;
 
 /// A run that came to its end: its queries in order, what each agent was given and what is left, and a row of values for
 /// each agent. `values[a - 1][b - 1]` is agent a's share-value of agent b's share, a fraction of 1.
@@ -40,12 +26,19 @@ pub enum Outcome {
     },
 }
 
-/// Why a run was given up.
+/// Why a run was given up. Queries are counted from 0.
 #[derive(Clone, Copy, Debug, PartialEq, Eq)]
 pub enum RunFault {
-    /// A number of that query doesn't fit. Queries are counted from 0; the values at the end belong to the number of
-    /// queries.
+    /// A number of that query doesn't fit. What is made after the last query, as the values at the end, belongs to the
+    /// number of queries.
     Overflow { query: u32 },
+    /// The answer to that query is wrong: its part isn't there, the point lies outside it, or what lies before it isn't
+    /// worth the amount.
+    BadAnswer { query: u32 },
+    /// That query, a cut that has a right answer, found no answer left.
+    TooFewAnswers { query: u32 },
+    /// The run has ended, and answers remain.
+    TooManyAnswers,
     /// Want of memory.
     Memory,
 }

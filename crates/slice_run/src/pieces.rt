@@ -1,18 +1,18 @@
 //! The pieces of a run, by the numbers in which they were made.
-ghost use Rattle.std.specs.Prelude.{◌≡◌, ℕ, ◌+◌, ◌-◌, ◌<◌, ◌≤◌, List, [], ◌∷◌, ◌++◌, length, map, vec_len, IfOk, OnOk, OnErr};
+ghost use Rattle.std.specs.Prelude.{◌≡◌, ℕ, ◌+◌, ◌-◌, ◌<◌, ◌≤◌, List, [], ◌∷◌, ◌++◌, length, map, vec_len, slice_get, Some, IfOk, OnOk, OnErr};
 ghost use Rattle.slice_num.specs.Valuation.{cake};
 ghost use Rattle.slice_num.specs.declared.interval.Interval.{Interval};
 ghost use Rattle.std.specs.Vec.{vec_capacity};
-ghost use Rattle.slice_run.specs.Pieces.{held, piece_at, emptied, given, joined, cut_pieces, with_rest, IsWithin};
+ghost use Rattle.slice_num.specs.Pieces.{join_pieces};
+ghost use Rattle.slice_run.specs.Pieces.{held, piece_at, emptied, given, joined, cut_part, with_rest, IsWithin};
 
-use crate::book::Book;
-use crate::piece::{Back, Piece};
 use slice_num::{Frac, Interval, Memory};
+use slice_piece::{Back, BackTwo, Book, Piece};
 use std::alloc::Global;
 use std::marker::Model;
 use std::mem;
 
-/// The pieces that were made so far, as contracts see them; one that was cut or given has no stretch any more.
+/// The pieces that were made so far, as contracts see them; one that was cut, joined or given has no stretch any more.
 pub(crate) struct Pieces {
     slots: Vec<Option<Piece>>,
 }
@@ -57,21 +57,27 @@ impl Pieces {
         }
     }
 
-    /// Cuts the piece of that number, which is one stretch, at a point of it; its two parts get the next numbers.
-    /// Where memory is wanted the piece is left.
-    pub(crate) fn cut(&mut self, number: usize, y: &Frac, book: &mut Book) -> Result<(), Memory>
-        requires one { length (piece_at self.old number) ≡ 1 }
-        requires within { (i : Interval) → piece_at self.old number ≡ i ∷ [] → IsWithin y.now i }
+    /// Cuts the piece of that number at a point of one of its parts; the two new pieces get the next numbers. Where
+    /// memory is wanted the piece is left.
+    pub(crate) fn cut(
+        &mut self,
+        number: usize,
+        part: usize,
+        y: &Frac,
+        book: &mut Book,
+    ) -> Result<(), Memory>
+        requires there { part < length (piece_at self.old number) }
+        requires within { (i : Interval) → slice_get (piece_at self.old number) part ≡ Some i → IsWithin y.now i }
         requires room { length (joined self.old) ≤ book.old.spare }
-        ensures ok { (i : Interval) → piece_at self.old number ≡ i ∷ []
-            → OnOk result (self.new ≡ cut_pieces self.old number i y.now) }
+        ensures ok { (i : Interval) → slice_get (piece_at self.old number) part ≡ Some i
+            → OnOk result (self.new ≡ cut_part self.old number part i y.now) }
         ensures book { OnOk result (book.new ≡ book.old) }
         ensures err { OnErr result (length (joined self.new) ≤ book.new.spare) }
     {
         if self.slots.reserve(2).is_err() {
             return Err(Memory);
         }
-        match take(&mut self.slots, number).cut(y) {
+        match take(&mut self.slots, number).cut(part, y) {
             Ok((left, right)) => {
                 self.slots.push(Some(left)).unwrap();
                 self.slots.push(Some(right)).unwrap();
@@ -79,6 +85,38 @@ impl Pieces {
             }
             Err(Back { piece }) => {
                 piece.leave(book);
+                Err(Memory)
+            }
+        }
+    }
+
+    /// Makes one piece of two, which gets the next number. Where memory is wanted both are left.
+    pub(crate) fn join(
+        &mut self,
+        first: usize,
+        second: usize,
+        book: &mut Book,
+    ) -> Result<(), Memory>
+        requires first_held { 0 < length (piece_at self.old first) }
+        requires second_held { 0 < length (piece_at (emptied self.old first) second) }
+        requires room { length (joined self.old) ≤ book.old.spare }
+        ensures ok { OnOk result (self.new ≡ join_pieces self.old first second) }
+        ensures book { OnOk result (book.new ≡ book.old) }
+        ensures err { OnErr result (length (joined self.new) ≤ book.new.spare) }
+    {
+        if self.slots.reserve(1).is_err() {
+            return Err(Memory);
+        }
+        let before = take(&mut self.slots, first);
+        let after = take(&mut self.slots, second);
+        match before.join(after) {
+            Ok(piece) => {
+                self.slots.push(Some(piece)).unwrap();
+                Ok(())
+            }
+            Err(BackTwo { first, second }) => {
+                first.leave(book);
+                second.leave(book);
                 Err(Memory)
             }
         }

@@ -1,39 +1,108 @@
 -- What is out at the end.
-use Rattle.std.proofs.Common.{◌≡◌, ◌≢◌, ◌≤◌, ◌∙◌, ℕ, ◌+◌, ◌-◌, List, length, take, drop, Option, Result, Ok, Err, ◌⊎◌, inl, inr, ap, sym, refl, arith}
+use Rattle.std.proofs.Common.{◌≡◌, ◌≢◌, ◌≤◌, ◌∙◌, ℕ, ◌+◌, ◌-◌, List, length, take, drop, Option, Some, None, Result, Ok, Err, ◌⊎◌, inl, inr, ap, sym, refl, arith}
 use Rattle.std.proofs.Math.Seq.{take-add}
 use Rattle.std.proofs.lemmas.List.{length-take, take-take}
-use Rattle.std.specs.Prelude.{OnErr}
+use Rattle.std.specs.Prelude.{OnErr, IfSome, Bool, true, false, if◌then◌else◌}
 use Rattle.slice_io.specs.Files.{Files}
 use Rattle.slice_io.specs.Told.{appended, appended-append, FrontIsOut}
+use Rattle.slice_io.specs.Causes.{Rose}
 use Rattle.slice_json.specs.Texts.{line_of}
+use Rattle.slice_report.specs.Refusals.{HasTexts, refused_json}
+use Rattle.slice_report.specs.declared.refusal.Refusal.{Refusal}
+use Rattle.slice_report.specs.declared.refusal.Refusal.TheVariants.{Usage, ReadFault, TooLong, Unbound, Rebound, UsedTwice}
 use Rattle.slice_top.specs.Commands.{Command}
-use Rattle.slice_top.specs.Refusals.{Refused, Usage, ReadFault, TooLong, Faulty, NotYet, BadValuations, Overflow, refused_json, refused_status}
+use Rattle.slice_top.specs.Turns.{ReadsFor}
 use Rattle.slice_top.specs.Answers.{IsAnswer, refused, answer_of}
 use Rattle.slice_top.specs.Reports.{Whole, answered, unread, whole, cut, Reports}
-use Rattle.slice_top.specs.Stops.{RefusesCommand, IsWritten}
+use Rattle.slice_top.specs.Settled.{IsOwn, Settled}
+use Rattle.slice_top.specs.Statuses.{IsWorked, IsWritten, is_limit, refused_status}
+use Rattle.slice_top.specs.Stops.{IsOfWork}
+use Rattle.slice_top.specs.declared.work.Output.{Output}
 use Rattle.slice_top.specs.declared.status.Status.{Status}
 use Rattle.slice_top.specs.declared.status.Status.TheVariants as status
 
--- the line of the answer
+-- ---- the line of an answer
+
 pub line_whole : (told : Option Files) (c : Option Command) (line : List ℕ) (s : Status) → IsAnswer told c (answer_of line s) → Whole told c line s
 line_whole told c line s h = answered (answer_of line s) h refl refl
 
-refused_whole : (told : Option Files) (c : Option Command) (r : Refused) → IsAnswer told c (refused r) → Whole told c (line_of (refused_json r)) (refused_status r)
-refused_whole told c r h = line_whole told c (line_of (refused_json r)) (refused_status r) h
+-- the words of a refusal of work are texts
+pub work_texts : (r : Refusal) → IsOfWork r → HasTexts r
+work_texts Usage h = absurd h
+work_texts (ReadFault file) h = absurd h
+work_texts (TooLong file) h = h
+work_texts (Unbound name at) h = h
+work_texts (Rebound name at) h = h
+work_texts (UsedTwice name at first) h = h
+work_texts r h = tt
+
+-- what is settled is no fault of a device
+own : (b : Bool) → IsOwn (if b then status.Limit else status.Refused)
+own true = record { written = tt; not_usage = λ e. cc; not_read = λ e. cc }
+own false = record { written = tt; not_usage = λ e. cc; not_read = λ e. cc }
+
+work_own : (r : Refusal) → IsOfWork r → IsOwn (refused_status r)
+work_own Usage h = absurd h
+work_own (ReadFault file) h = absurd h
+work_own r h = own (is_limit r)
+
+worked_own : (s : Status) → IsWorked s → IsOwn s
+worked_own status.Good h = record { written = tt; not_usage = λ e. cc; not_read = λ e. cc }
+worked_own status.Negative h = record { written = tt; not_usage = λ e. cc; not_read = λ e. cc }
+worked_own s h = absurd h
+
+some_none : {A : Type 0} (x : A) → Some x ≡ None → ⊥
+some_none x e = cc
+
+-- a line with a status of its own, of a command
+own_settled : (told : Option Files) (k : Command) (before now : ℕ) (l : Output) → IsOwn l.status → Whole told (Some k) l.bytes.items l.status → Settled told (Some k) before now l
+own_settled told k before now l o w = record {
+  written = o.written;
+  usage = (λ e. absurd (o.not_usage e), λ e. absurd (some_none k e));
+  read = λ e. absurd (o.not_read e);
+  whole = w;
+}
+
+pub worked_settled : (told : Option Files) (k : Command) (before now : ℕ) (l : Output) → IsWorked l.status → IsAnswer told (Some k) (answer_of l.bytes.items l.status) → Settled told (Some k) before now l
+worked_settled told k before now l w h = own_settled told k before now l (worked_own l.status w) (line_whole told (Some k) l.bytes.items l.status h)
 
 -- the line of a refusal
-refusal_whole : (told : Option Files) (c : Option Command) (rose : Type 0) (r : Refused) → RefusesCommand told c rose r → Whole told c (line_of (refused_json r)) (refused_status r)
-refusal_whole told c rose Usage h = refused_whole told c Usage h.cause
-refusal_whole told c rose (ReadFault file) h = unread file h.cause.0 refl refl
-refusal_whole told c rose (TooLong file) h = refused_whole told c (TooLong file) h.cause
-refusal_whole told c rose (Faulty fault at) h = refused_whole told c (Faulty fault at) h.cause
-refusal_whole told c rose NotYet h = refused_whole told c NotYet h.cause
-refusal_whole told c rose BadValuations h = refused_whole told c BadValuations h.cause
-refusal_whole told c rose (Overflow query) h = refused_whole told c (Overflow query) h.cause
+abbrev pub IsLineOf : Refusal → Output → Type 0
+IsLineOf r l = (l.bytes.items ≡ line_of (refused_json r)) × (l.status ≡ refused_status r)
 
-pub refusal_line_whole : (told : Option Files) (c : Option Command) (rose : Type 0) (r : Refused) (bytes : List ℕ) (s : Status) → RefusesCommand told c rose r
-    → bytes ≡ line_of (refused_json r) → s ≡ refused_status r → Whole told c bytes s
-refusal_line_whole told c rose r bytes s h b t = rw (b, t) (refusal_whole told c rose r h)
+pub refused_settled : (told : Option Files) (k : Command) (before now : ℕ) (r : Refusal) (l : Output) → IsOfWork r → IsAnswer told (Some k) (refused r) → IsLineOf r l → Settled told (Some k) before now l
+refused_settled told k before now r l w h line = own_settled told k before now l (rw line.1 (work_own r w)) (answered (refused r) h line.1 line.0)
+
+pub unread_settled : (told : Option Files) (k : Command) (before now : ℕ) (file : List ℕ) (l : Output) → ReadsFor told (Some k) file → Rose before now → IsLineOf (ReadFault file) l → Settled told (Some k) before now l
+unread_settled told k before now file l h rose line = record {
+  written = rw line.1 tt;
+  usage = (λ e. let bad : status.ReadFault ≡ status.Usage = sym line.1 ∙ e in absurd cc, λ e. absurd (some_none k e));
+  read = λ e. rose;
+  whole = unread file h line.1 line.0;
+}
+
+pub usage_settled : (told : Option Files) (before now : ℕ) (l : Output) → IsLineOf Usage l → Settled told None before now l
+usage_settled told before now l line = record {
+  written = rw line.1 tt;
+  usage = (λ e. refl, λ e. line.1);
+  read = λ e. let bad : status.Usage ≡ status.ReadFault = sym line.1 ∙ e in absurd cc;
+  whole = answered (refused Usage) refl line.1 line.0;
+}
+
+-- what holds of an output, where there is one
+pub if_some_so : {T : Type 0} (P Q : T → Type 0) → ((x : T) → P x → Q x) → (o : Option T) → IfSome o P → IfSome o Q
+if_some_so P Q f (Some x) h = f x h
+if_some_so P Q f None h = tt
+
+pub if_some_both : {T : Type 0} (P Q : T → Type 0) (o : Option T) → IfSome o P → IfSome o Q → IfSome o (λ x. P x × Q x)
+if_some_both P Q (Some x) h k = (h, k)
+if_some_both P Q None h k = tt
+
+-- the line of a refusal settles what it settles
+pub line_settles : (Q : Output → Type 0) (r : Refusal) (o : Option Output) → ((l : Output) → IsLineOf r l → Q l)
+    → IfSome o (λ l. l.bytes.items ≡ line_of (refused_json r)) → IfSome o (λ l. l.status ≡ refused_status r) → IfSome o Q
+line_settles Q r (Some l) f b s = f l (b, s)
+line_settles Q r None f b s = tt
 
 -- ---- line by line
 

@@ -1,93 +1,206 @@
 -- Files and a command have an answer.
-use Rattle.std.proofs.Common.{◌≡◌, ℕ, List, [], ◌∷◌, length, Option, Some, None, sym, refl, ap, subst, ⊎_elim}
+use Rattle.std.proofs.Common.{◌≡◌, ◌≢◌, ◌∙◌, ℕ, ◌+◌, ◌<◌, ◌⊎◌, inl, inr, Bool, true, false, List, [], ◌∷◌, length, Option, Some, None, Result, Ok, Err, sym, refl, ap, subst, ⊎_elim}
+use Rattle.std.specs.Prelude.{nat_lt, if◌then◌else◌}
 use Rattle.std.proofs.lemmas.Bool.Decides.{leb_tells}
 use Rattle.slice_num.specs.Valuation.{Valuation}
 use Rattle.slice_lex.specs.declared.token.Token.{Token}
-use Rattle.slice_lex.specs.declared.token.LexFault.{LexFault}
 use Rattle.slice_lex.specs.declared.token.LexFault.TheVariants as lex
-use Rattle.slice_lex.specs.Lexing.{IsLexing, IsRead, Fault}
-use Rattle.slice_ast.specs.Code.{PlainProgram as SurfaceProgram}
+use Rattle.slice_lex.specs.Lexing.{IsRead}
+use Rattle.slice_io.specs.Files.{Files, file_of, IsFile}
+use Rattle.slice_ast.specs.Code.{PlainProgram}
 use Rattle.slice_ast.specs.Layout.{canonical_text}
 use Rattle.slice_parse.specs.declared.parser.ParseFault.{ParseFault}
 use Rattle.slice_parse.specs.declared.parser.ParseFault.TheVariants as parser
-use Rattle.slice_parse.specs.Parsing.{IsFaultOf}
-use Rattle.slice_parse.specs.Laws.{IsTextOf, HasFault}
+use Rattle.slice_parse.specs.Laws.{IsProgramOf, HasFault}
 use Rattle.slice_parse.proofs.Unique.{each_parsed}
-use Rattle.slice_io.specs.Files.{Files, file_of, IsFile}
-use Rattle.slice_run.specs.Walk.{Walked, Good, Stopped, Told, least_outcome}
-use Rattle.slice_top.specs.Commands.{Command, print, run}
-use Rattle.slice_top.specs.PlainProgram.{PlainProgram}
-use Rattle.slice_top.specs.PlainCore.{core_of_program}
-use Rattle.slice_top.specs.declared.refusal.TextFault.{TextFault}
-use Rattle.slice_top.specs.declared.refusal.TextFault.TheVariants as fault
-use Rattle.slice_top.specs.Refusals.{Usage, ReadFault, TooLong, Faulty, NotYet, BadValuations, Overflow, fault_of}
-use Rattle.slice_top.specs.Answers.{Answer, answer_of, refused, told_answer, limit, Read, missing, too_long, in_full, Parsed, faulty, parsed, Planned, not_plain, plain, Valued, no_valuations, valuations, IsOutcome, IsAnswer}
+use Rattle.slice_affine.specs.declared.fault.AffineFault.{AffineFault}
+use Rattle.slice_affine.specs.declared.fault.AffineFault.TheVariants as rule
+use Rattle.slice_affine.specs.Conditions.{IsParsed}
+use Rattle.slice_affine.specs.Rules.{MeetsRules, IsFirstFault}
+use Rattle.slice_affine.proofs.UniqueLemmas.{first_faults_exist, stands_not_memory}
+use Rattle.slice_core.specs.Tree.{Core}
+use Rattle.slice_expand.specs.declared.fault.ExpandFault.{ExpandFault}
+use Rattle.slice_expand.specs.declared.fault.ExpandFault.TheVariants as expansion
+use Rattle.slice_expand.specs.Expansion.{core_of, marked}
+use Rattle.slice_expand.specs.Limits.{Event, ACall, ANode, Counted, Within, Past, counted, events, limit_of, first_limit}
+use Rattle.slice_step.specs.ValuationFile.{IsValuationFile, IsReplayFile, valuations_fault, replay_fault}
+use Rattle.slice_num.specs.declared.cut_answer.CutAnswer.{CutAnswer}
+use Rattle.slice_step.specs.declared.fault.ValuationFault.{ValuationFault}
+use Rattle.slice_step.specs.declared.fault.ValuationFault.TheVariants as values
+use Rattle.slice_step.proofs.OneAnswer.{file_some}
+use Rattle.slice_run.specs.RunLaws.{IsTold, IsLeastTold}
+use Rattle.slice_run.specs.declared.outcome.RunFault.{RunFault}
+use Rattle.slice_run.specs.declared.outcome.RunFault.TheVariants as fault
+use Rattle.slice_run.specs.Walk.{Told, Walked, Good, Refused, outcome, Least, Given}
+use Rattle.slice_report.specs.RunReport.{told_json}
+use Rattle.slice_report.specs.CoreReport.{core_json}
+use Rattle.slice_report.specs.declared.refusal.Refusal.{Refusal}
+use Rattle.slice_report.specs.declared.refusal.Refusal.TheVariants as refusal
+use Rattle.slice_top.specs.Answers.{Answer, answer_of, one_line, refused, Stage, stops, goes, WithFile, WithProgram, WithCore, IsPrintAnswer, IsCheckAnswer, IsRunAnswer, IsReplayAnswer, TellsLeastRun, TellsGivenRun, IsOutcome, IsAnswer}
+use Rattle.slice_top.specs.Commands.{Command, check, print, run, replay}
+use Rattle.slice_top.specs.Cores.{RefusesCore, IsCoreOf, rule_refusal, limit_refusal}
+use Rattle.slice_top.specs.FilesRead.{IsFileOf, RefusesFile, limit}
+use Rattle.slice_top.specs.Laws.{AnswersExist}
+use Rattle.slice_top.specs.Programs.{RefusesText, text_refusal}
+use Rattle.slice_top.specs.Runs.{RefusesRun, run_refusal, told_status}
+use Rattle.slice_top.specs.Values.{RefusesValues, RefusesReplay, values_refusal}
 use Rattle.slice_top.specs.declared.status.Status.TheVariants as status
-use Rattle.slice_top.proofs.Known.{plain_found, valuations_found}
+use Rattle.slice_top.proofs.FileFaults.{replay_found, fault_not_memory, replay_fault_not_memory}
+use Rattle.slice_top.proofs.ToldRuns.{least_said, given_said, some_agent}
+use Rattle.slice_top.proofs.UniqueAnswers.{parsed_of}
 
-abbrev pub HasAnswer : (Answer → Type 0) → Type 0
+abbrev HasAnswer : (Answer → Type 0) → Type 0
 HasAnswer P = (a : Answer) × P a
 
-read_from : (files : Files) (name : List ℕ) (Next : List ℕ → Answer → Type 0) → ((bytes : List ℕ) → HasAnswer (Next bytes)) → (o : Option (List ℕ)) → file_of name files ≡ o → HasAnswer (Read (Some files) name Next)
-read_from files name Next next None e = (refused (ReadFault name), missing (ap Some e) refl)
-read_from files name Next next (Some bytes) e =
+-- a stage that is refused, or gives something that has an answer
+some_stage : {X : Type 0} (Cause : Refusal → Type 0) (Gives : X → Type 0) (Next : X → Answer → Type 0)
+    → ((r : Refusal) × Cause r) ⊎ ((x : X) × Gives x) → ((x : X) → Gives x → HasAnswer (Next x)) → HasAnswer (Stage Cause Gives Next)
+some_stage Cause Gives Next (inl (r, h)) next = (refused r, stops r h refl)
+some_stage Cause Gives Next (inr (x, h)) next = let n = next x h in (n.0, goes x h n.1)
+
+-- ---- files
+
+file_found : (files : Files) (name : List ℕ) (o : Option (List ℕ)) → file_of name files ≡ o → ((r : Refusal) × RefusesFile (Some files) name r) ⊎ ((bytes : List ℕ) × IsFileOf (Some files) name bytes)
+file_found files name None e = inl (refusal.ReadFault name, (refl, ap Some e))
+file_found files name (Some bytes) e =
     let there : IsFile (Some (file_of name files)) bytes = subst (λ (o : Option (List ℕ)). IsFile (Some o) bytes) (sym e) refl in
     ⊎_elim
-    (λ h. let n = next bytes in (n.0, in_full bytes there h.1 n.1))
-    (λ h. (refused (TooLong name), too_long bytes there h.1 refl))
+    (λ h. inr (bytes, record { there = there; short = h.1 }))
+    (λ h. inl (refusal.TooLong name, (refl, record { bytes = bytes; there = there; long = h.1 })))
     (leb_tells (length bytes) limit)
 
-some_read : (files : Files) (name : List ℕ) (Next : List ℕ → Answer → Type 0) → ((bytes : List ℕ) → HasAnswer (Next bytes)) → HasAnswer (Read (Some files) name Next)
-some_read files name Next next = read_from files name Next next (file_of name files) refl
+some_file : (files : Files) (name : List ℕ) (Next : List ℕ → Answer → Type 0) → ((bytes : List ℕ) → HasAnswer (Next bytes)) → HasAnswer (WithFile (Some files) name Next)
+some_file files name Next next = some_stage (RefusesFile (Some files) name) (IsFileOf (Some files) name) Next (file_found files name (file_of name files) refl) (λ bytes h. next bytes)
+
+-- ---- texts
 
 -- the lexer's want of memory is no fault of a text
 no_memory : (ts : List Token) (at : ℕ) (bytes : List ℕ) → IsRead ts (Some lex.Memory) at bytes → ⊥
 no_memory [] at bytes h = h
 no_memory (t ∷ ts) at bytes h = let gap = h.after in no_memory ts _ gap.rest gap.after
 
--- a fault of a text, as it is told
-record IsNamed (text : List ℕ) : Type 0 where
-  fault : TextFault
-  at : ℕ
-  first : IsFaultOf text (fault_of fault at)
+text_refused : (text : List ℕ) (f : ParseFault) → HasFault text f → (r : Refusal) × RefusesText text r
+text_refused text (parser.Lex (lex.BadByte at)) h = (refusal.BadByte at, (parser.Lex (lex.BadByte at), (refl, h.first)))
+text_refused text (parser.Lex (lex.LongWord at)) h = (refusal.LongWord at, (parser.Lex (lex.LongWord at), (refl, h.first)))
+text_refused text (parser.Lex (lex.LongNumber at)) h = (refusal.LongNumber at, (parser.Lex (lex.LongNumber at), (refl, h.first)))
+text_refused text (parser.Lex (lex.LeadingZero at)) h = (refusal.LeadingZero at, (parser.Lex (lex.LeadingZero at), (refl, h.first)))
+text_refused text (parser.Lex lex.Memory) h = let f = h.first in absurd (no_memory f.0 _ f.1.rest f.1.after)
+text_refused text (parser.Syntax at) h = (refusal.Syntax at, (parser.Syntax at, (refl, h.first)))
+text_refused text (parser.DeepBlock at) h = (refusal.DeepBlock at, (parser.DeepBlock at, (refl, h.first)))
+text_refused text (parser.LongSum at) h = (refusal.LongSum at, (parser.LongSum at, (refl, h.first)))
+text_refused text parser.Memory h = absurd (h.own refl)
 
-named : (text : List ℕ) (f : ParseFault) → HasFault text f → IsNamed text
-named text (parser.Lex (lex.BadByte at)) h = record { fault = fault.BadByte; at = at; first = h.first }
-named text (parser.Lex (lex.LongWord at)) h = record { fault = fault.LongWord; at = at; first = h.first }
-named text (parser.Lex (lex.LongNumber at)) h = record { fault = fault.LongNumber; at = at; first = h.first }
-named text (parser.Lex (lex.LeadingZero at)) h = record { fault = fault.LeadingZero; at = at; first = h.first }
-named text (parser.Lex lex.Memory) h = let f = h.first in absurd (no_memory f.0 _ f.1.rest f.1.after)
-named text (parser.Syntax at) h = record { fault = fault.Syntax; at = at; first = h.first }
-named text (parser.DeepBlock at) h = record { fault = fault.DeepBlock; at = at; first = h.first }
-named text (parser.LongSum at) h = record { fault = fault.LongSum; at = at; first = h.first }
-named text parser.Memory h = absurd (h.own refl)
+text_found : (text : List ℕ) → ((r : Refusal) × RefusesText text r) ⊎ ((p : PlainProgram) × IsProgramOf text p)
+text_found text = ⊎_elim (λ is. inr is) (λ h. inl (text_refused text h.0 h.1)) (each_parsed text)
 
-some_parsed : (text : List ℕ) (Next : SurfaceProgram → Answer → Type 0) → ((p : SurfaceProgram) → IsTextOf text p → HasAnswer (Next p)) → HasAnswer (Parsed text Next)
-some_parsed text Next next =
-    ⊎_elim (λ f. let n = next f.0 f.1 in (n.0, parsed f.0 f.1 n.1))
-    (λ none. let k = named text none.0 none.1 in (refused (Faulty k.fault k.at), faulty k.fault k.at k.first refl))
-    (each_parsed text)
+some_program : (files : Files) (f : List ℕ) (Next : PlainProgram → Answer → Type 0) → ((text : List ℕ) (p : PlainProgram) → IsProgramOf text p → HasAnswer (Next p)) → HasAnswer (WithProgram (Some files) f Next)
+some_program files f Next next =
+    some_file files f (λ text. Stage (RefusesText text) (IsProgramOf text) Next) (λ text. some_stage (RefusesText text) (IsProgramOf text) Next (text_found text) (next text))
 
-some_planned : (text : List ℕ) (p : SurfaceProgram) → IsTextOf text p → (Next : PlainProgram → Answer → Type 0) → ((q : PlainProgram) → HasAnswer (Next q)) → HasAnswer (Planned p Next)
-some_planned text p is Next next =
-    ⊎_elim (λ f. let n = next f.0 in (n.0, plain f.0 f.1 n.1)) (λ none. (refused NotYet, not_plain none refl)) (plain_found p is.spellable)
+-- ---- cores
 
-some_valued : (bytes : List ℕ) (Next : List Valuation → Answer → Type 0) → ((vs : List Valuation) → HasAnswer (Next vs)) → HasAnswer (Valued bytes Next)
-some_valued bytes Next next =
-    ⊎_elim (λ f. let n = next f.0 in (n.0, valuations f.0 f.1 n.1)) (λ none. (refused BadValuations, no_valuations none refl)) (valuations_found bytes)
+rule_refused : (p : PlainProgram) (parsed : IsParsed p) (f : AffineFault) → IsFirstFault p f → (r : Refusal) × RefusesCore p r
+rule_refused p parsed (rule.Unbound name at) h = (refusal.Unbound name at, inl (rule.Unbound name at, (refl, h)))
+rule_refused p parsed (rule.Rebound name at) h = (refusal.Rebound name at, inl (rule.Rebound name at, (refl, h)))
+rule_refused p parsed (rule.UsedTwice name at first) h = (refusal.UsedTwice name at first, inl (rule.UsedTwice name at first, (refl, h)))
+rule_refused p parsed (rule.AgentRange at) h = (refusal.AgentRange at, inl (rule.AgentRange at, (refl, h)))
+rule_refused p parsed (rule.Arity at) h = (refusal.Arity at, inl (rule.Arity at, (refl, h)))
+rule_refused p parsed (rule.YieldCount at) h = (refusal.YieldCount at, inl (rule.YieldCount at, (refl, h)))
+rule_refused p parsed (rule.ZeroDen at) h = (refusal.ZeroDen at, inl (rule.ZeroDen at, (refl, h)))
+rule_refused p parsed (rule.ProcLimit at) h = (refusal.ProcLimit at, inl (rule.ProcLimit at, (refl, h)))
+rule_refused p parsed rule.Memory h = absurd (stands_not_memory p parsed h.stands)
 
-some_outcome : (w : Walked Told) → HasAnswer (IsOutcome w)
-some_outcome (Good t) = (told_answer t, refl)
-some_outcome (Stopped query) = (refused (Overflow query), refl)
+-- no limit is want of memory
+past_if : (b : Bool) (f : ExpandFault) (c : Counted) → f ≢ expansion.Memory → limit_of c ≢ Some expansion.Memory → limit_of (if b then Past f else c) ≢ Some expansion.Memory
+past_if true f c h k e = h (some_same e)
+  where
+    some_same : Some f ≡ Some expansion.Memory → f ≡ expansion.Memory
+    some_same e = cc
+past_if false f c h k e = k e
 
-pub some_answer : (files : Files) (c : Option Command) → HasAnswer (IsAnswer (Some files) c)
-some_answer files None = (refused Usage, refl)
-some_answer files (Some (print f)) =
-    some_read files f (λ text. Parsed text (λ p b. b ≡ answer_of (canonical_text p) status.Good))
-    (λ text. some_parsed text (λ p b. b ≡ answer_of (canonical_text p) status.Good) (λ p is. (answer_of (canonical_text p) status.Good, refl)))
+limits_told : (es : List Event) (n c : ℕ) → limit_of (counted es n c) ≢ Some expansion.Memory
+limits_told [] n c = λ e. cc
+limits_told (ACall ∷ es) n c = past_if (nat_lt 100000 (c + 1)) expansion.CallLimit (counted es n (c + 1)) (λ e. cc) (limits_told es n (c + 1))
+limits_told (ANode d k ∷ es) n c =
+    past_if (nat_lt 200000 (n + 1)) expansion.NodeLimit _ (λ e. cc)
+    (past_if (nat_lt 512 d) expansion.DepthLimit _ (λ e. cc)
+    (past_if (nat_lt 64 k) expansion.CutLimit (counted es (n + 1) c) (λ e. cc) (limits_told es (n + 1) c)))
+
+limit_refused : (p : PlainProgram) (f : ExpandFault) → MeetsRules p → first_limit p ≡ Some f → (r : Refusal) × RefusesCore p r
+limit_refused p expansion.NodeLimit m h = (refusal.NodeLimit, inr (record { rules = m; fault = expansion.NodeLimit; told = refl; first = h }))
+limit_refused p expansion.DepthLimit m h = (refusal.DepthLimit, inr (record { rules = m; fault = expansion.DepthLimit; told = refl; first = h }))
+limit_refused p expansion.CutLimit m h = (refusal.CutLimit, inr (record { rules = m; fault = expansion.CutLimit; told = refl; first = h }))
+limit_refused p expansion.CallLimit m h = (refusal.CallLimit, inr (record { rules = m; fault = expansion.CallLimit; told = refl; first = h }))
+limit_refused p expansion.Memory m h = absurd (limits_told (events (marked p) 0 0) 0 0 h)
+
+expanded : (p : PlainProgram) → MeetsRules p → (o : Option ExpandFault) → first_limit p ≡ o → ((r : Refusal) × RefusesCore p r) ⊎ ((c : Core) × IsCoreOf p c)
+expanded p m None e = inr (core_of p, record { rules = m; limits = e; same = refl })
+expanded p m (Some f) e = inl (limit_refused p f m e)
+
+core_found : (text : List ℕ) (p : PlainProgram) → IsProgramOf text p → ((r : Refusal) × RefusesCore p r) ⊎ ((c : Core) × IsCoreOf p c)
+core_found text p is = ⊎_elim (λ m. expanded p m (first_limit p) refl) (λ h. inl (rule_refused p (parsed_of text p is) h.0 h.1)) (first_faults_exist p (parsed_of text p is))
+
+some_core : (files : Files) (f : List ℕ) (Next : Core → Answer → Type 0) → ((text : List ℕ) (p : PlainProgram) (c : Core) → IsProgramOf text p → IsCoreOf p c → HasAnswer (Next c)) → HasAnswer (WithCore (Some files) f Next)
+some_core files f Next next =
+    some_program files f (λ p. Stage (RefusesCore p) (IsCoreOf p) Next) (λ text p is. some_stage (RefusesCore p) (IsCoreOf p) Next (core_found text p is) (λ c made. next text p c is made))
+
+-- ---- second files
+
+values_refused : (f : ValuationFault) → f ≢ values.Memory → (r : Refusal) × (values_refusal f ≡ Some r)
+values_refused values.Json h = (refusal.Json, refl)
+values_refused (values.Shape agent) h = (refusal.Shape agent, refl)
+values_refused values.AgentCount h = (refusal.AgentCount, refl)
+values_refused (values.NotWhole agent) h = (refusal.NotWhole agent, refl)
+values_refused (values.EndsOrder agent) h = (refusal.EndsOrder agent, refl)
+values_refused (values.HeightRange agent) h = (refusal.HeightRange agent, refl)
+values_refused (values.NoTotal agent) h = (refusal.NoTotal agent, refl)
+values_refused (values.LengthsDiffer agent) h = (refusal.LengthsDiffer agent, refl)
+values_refused (values.CutForm index) h = (refusal.CutForm index, refl)
+values_refused values.Memory h = absurd (h refl)
+
+values_decided : (bytes : List ℕ) (agents : ℕ) (o : Option ValuationFault) → valuations_fault bytes agents ≡ o → ((r : Refusal) × RefusesValues bytes agents r) ⊎ ((vs : List Valuation) × IsValuationFile bytes agents vs)
+values_decided bytes agents None e = inr (file_some bytes agents e)
+values_decided bytes agents (Some f) e =
+    let n = values_refused f (λ m. fault_not_memory bytes agents (e ∙ ap Some m)) in inl (n.0, (f, (n.1, e)))
+
+replay_decided : (bytes : List ℕ) (agents : ℕ) → 0 < agents → (o : Option ValuationFault) → replay_fault bytes agents ≡ o
+    → ((r : Refusal) × RefusesReplay bytes agents r) ⊎ ((file : List Valuation × List CutAnswer) × IsReplayFile bytes agents file.0 file.1)
+replay_decided bytes agents some None e = inr (replay_found bytes agents some e)
+replay_decided bytes agents some (Some f) e =
+    let n = values_refused f (λ m. replay_fault_not_memory bytes agents (e ∙ ap Some m)) in inl (n.0, (f, (n.1, e)))
+
+-- ---- runs
+
+run_refused : (f : RunFault) → f ≢ fault.Memory → (r : Refusal) × (run_refusal f ≡ Some r)
+run_refused (fault.Overflow query) h = (refusal.RunOverflow query, refl)
+run_refused (fault.BadAnswer query) h = (refusal.BadAnswer query, refl)
+run_refused (fault.TooFewAnswers query) h = (refusal.TooFewAnswers query, refl)
+run_refused fault.TooManyAnswers h = (refusal.TooManyAnswers, refl)
+run_refused fault.Memory h = absurd (h refl)
+
+some_outcome : (w v : Walked Told) → w ≡ v → ((f : RunFault) → w ≡ Refused f → f ≢ fault.Memory) → HasAnswer (IsOutcome w)
+some_outcome w (Good t) e h = (one_line (told_json t) (told_status t), goes t e refl)
+some_outcome w (Refused f) e h = let n = run_refused f (h f e) in (refused n.0, stops n.0 (f, (n.1, e)) refl)
+
+some_least : (text bytes : List ℕ) (p : PlainProgram) (c : Core) → IsProgramOf text p → IsCoreOf p c → HasAnswer (TellsLeastRun bytes c)
+some_least text bytes p c is made =
+    some_stage (RefusesValues bytes c.agents) (IsValuationFile bytes c.agents) _ (values_decided bytes c.agents (valuations_fault bytes c.agents) refl)
+    (λ vs said. some_outcome (outcome vs c Least) (outcome vs c Least) refl
+    (λ f e m. subst (IsLeastTold vs _) (e ∙ ap Refused m) (least_said text bytes p c vs is made said)))
+
+some_given : (text bytes : List ℕ) (p : PlainProgram) (c : Core) → IsProgramOf text p → IsCoreOf p c → HasAnswer (TellsGivenRun bytes c)
+some_given text bytes p c is made =
+    some_stage (RefusesReplay bytes c.agents) (λ (file : List Valuation × List CutAnswer). IsReplayFile bytes c.agents file.0 file.1) _ (replay_decided bytes c.agents (some_agent text p c is made) (replay_fault bytes c.agents) refl)
+    (λ file said. some_outcome (outcome file.0 c (Given file.1)) (outcome file.0 c (Given file.1)) refl
+    (λ f e m. subst (IsTold file.0 _) (e ∙ ap Refused m) (given_said text bytes p c file.0 file.1 is made said)))
+
+-- ---- all commands
+
+pub some_answer : AnswersExist
+some_answer files None = (refused refusal.Usage, refl)
+some_answer files (Some (check f)) = some_core files f IsCheckAnswer (λ text p c is made. (one_line (core_json c) status.Good, refl))
+some_answer files (Some (print f)) = some_program files f IsPrintAnswer (λ text p is. (answer_of (canonical_text p) status.Good, refl))
 some_answer files (Some (run f v)) =
-    some_read files f (λ text. Parsed text (λ p. Planned p (λ q. Read (Some files) v (λ bytes. Valued bytes (λ vs. IsOutcome (least_outcome vs (core_of_program q)))))))
-    (λ text. some_parsed text (λ p. Planned p (λ q. Read (Some files) v (λ bytes. Valued bytes (λ vs. IsOutcome (least_outcome vs (core_of_program q))))))
-    (λ p is. some_planned text p is (λ q. Read (Some files) v (λ bytes. Valued bytes (λ vs. IsOutcome (least_outcome vs (core_of_program q)))))
-    (λ q. some_read files v (λ bytes. Valued bytes (λ vs. IsOutcome (least_outcome vs (core_of_program q))))
-    (λ bytes. some_valued bytes (λ vs. IsOutcome (least_outcome vs (core_of_program q))) (λ vs. some_outcome (least_outcome vs (core_of_program q)))))))
+    some_core files f (IsRunAnswer (Some files) v) (λ text p c is made. some_file files v (λ bytes. TellsLeastRun bytes c) (λ bytes. some_least text bytes p c is made))
+some_answer files (Some (replay f v)) =
+    some_core files f (IsReplayAnswer (Some files) v) (λ text p c is made. some_file files v (λ bytes. TellsGivenRun bytes c) (λ bytes. some_given text bytes p c is made))

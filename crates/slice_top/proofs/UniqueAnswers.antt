@@ -1,127 +1,167 @@
 -- Files and a command have one answer.
-use Rattle.std.proofs.Common.{◌≡◌, ◌∙◌, ℕ, List, length, Option, Some, None, sym, refl, ap, subst, arith}
+use Rattle.std.proofs.Common.{◌≡◌, ◌≢◌, ◌∙◌, ℕ, ◌<◌, ◌⊎◌, inl, inr, List, length, Option, Some, None, sym, refl, ap, subst, arith}
 use Rattle.slice_num.specs.Valuation.{Valuation}
-use Rattle.slice_ast.specs.Code.{PlainProgram as SurfaceProgram}
-use Rattle.slice_ast.specs.Layout.{canonical, canonical_text}
-use Rattle.slice_lex.specs.declared.token.LexFault.TheVariants as lex
+use Rattle.slice_io.specs.Files.{Files, file_of, told_file, IsFile}
+use Rattle.slice_ast.specs.Code.{PlainProgram}
 use Rattle.slice_parse.specs.declared.parser.ParseFault.{ParseFault}
 use Rattle.slice_parse.specs.declared.parser.ParseFault.TheVariants as parser
-use Rattle.slice_parse.specs.Laws.{IsTextOf}
-use Rattle.slice_parse.proofs.Unique.{faults_unique, faulty_apart, same_tokens}
-use Rattle.slice_io.specs.Files.{Files, file_of, IsFile}
-use Rattle.slice_run.specs.Walk.{Walked, Good, Stopped, Told, least_outcome}
-use Rattle.slice_top.specs.Commands.{Command, print, run}
-use Rattle.slice_top.specs.PlainProgram.{PlainProgram}
-use Rattle.slice_top.specs.PlainText.{IsPlainAs}
-use Rattle.slice_top.specs.Refusals.{Refused, Usage, Faulty, fault_of}
-use Rattle.slice_top.specs.declared.refusal.TextFault.{TextFault}
-use Rattle.slice_top.specs.declared.refusal.TextFault.TheVariants as fault
-use Rattle.slice_top.specs.PlainCore.{core_of_program}
-use Rattle.slice_top.specs.Answers.{Answer, answer_of, refused, Read, missing, too_long, in_full, Parsed, faulty, parsed, Planned, not_plain, plain, Valued, no_valuations, valuations, most_cuts, IsOutcome, IsAnswer}
-use Rattle.slice_top.specs.declared.status.Status.TheVariants as status
-use Rattle.slice_top.specs.LeastRuns.{ProgramsAreUnique}
-use Rattle.slice_top.proofs.PlainReads.{one_plain, moved_plain, same_program}
+use Rattle.slice_parse.specs.Laws.{IsProgramOf, ReadProgramsAreUnique}
+use Rattle.slice_parse.proofs.Unique.{faults_unique, faulty_apart}
+use Rattle.slice_affine.specs.Conditions.{IsParsed}
+use Rattle.slice_affine.proofs.ReadLemmas.{read_rises}
+use Rattle.slice_affine.proofs.UniqueLemmas.{first_faults_unique}
+use Rattle.slice_core.specs.Tree.{Core}
+use Rattle.slice_expand.specs.Limits.{first_limit}
+use Rattle.slice_step.specs.ValuationFile.{IsValuationFile, IsReplayFile, valuations_fault, replay_fault}
+use Rattle.slice_step.proofs.OneAnswer.{one_list}
+use Rattle.slice_num.specs.declared.cut_answer.CutAnswer.{CutAnswer}
+use Rattle.slice_run.specs.declared.outcome.RunFault.{RunFault}
+use Rattle.slice_run.specs.Walk.{Told, Walked, Good, Refused, outcome, Least, Given}
+use Rattle.slice_report.specs.declared.refusal.Refusal.{Refusal}
+use Rattle.slice_report.specs.declared.refusal.Refusal.TheVariants.{ReadFault, TooLong}
+use Rattle.slice_top.specs.Answers.{Answer, refused, Stage, stops, goes, WithFile, WithProgram, WithCore, IsPrintAnswer, IsCheckAnswer, IsRunAnswer, IsReplayAnswer, TellsLeastRun, TellsGivenRun, IsOutcome, IsAnswer}
+use Rattle.slice_top.specs.Commands.{Command, check, print, run, replay}
+use Rattle.slice_top.specs.Cores.{RefusesRules, RefusesLimits, RefusesCore, IsCoreOf, rule_refusal, limit_refusal}
+use Rattle.slice_top.specs.FilesRead.{IsFileOf, RefusesFile}
+use Rattle.slice_top.specs.Laws.{AnswersAreUnique}
+use Rattle.slice_top.specs.Programs.{RefusesText, text_refusal}
+use Rattle.slice_top.specs.Runs.{RefusesRun, run_refusal}
+use Rattle.slice_top.proofs.FileFaults.{values_apart, replay_apart, replay_same}
+use Rattle.slice_top.proofs.ToldRuns.{some_agent}
+use Rattle.slice_top.specs.Values.{RefusesValues, RefusesReplay, values_refusal}
 
-some_is : (o : Option (List ℕ)) (x y : List ℕ) → o ≡ Some x → o ≡ Some y → x ≡ y
-some_is o x y e f = let both : Some x ≡ Some y = sym e ∙ f in cc
+-- what comes next has one answer
+abbrev One : (Answer → Type 0) → Type 0
+One Next = (a b : Answer) → Next a → Next b → a ≡ b
 
--- what a file that is told holds
-file_is : (o : Option (List ℕ)) (x : List ℕ) → IsFile (Some o) x → o ≡ Some x
-file_is None x h = absurd h
-file_is (Some y) x h = ap Some (sym h)
+-- a stage has one answer, where it has one refusal, or gives one thing, and never both
+stage_one : {X : Type 0} (Cause : Refusal → Type 0) (Gives : X → Type 0) (Next : X → Answer → Type 0)
+    → ((r s : Refusal) → Cause r → Cause s → r ≡ s) → ((r : Refusal) (x : X) → Cause r → Gives x → ⊥) → ((x y : X) → Gives x → Gives y → x ≡ y) → ((x : X) → Gives x → One (Next x)) → One (Stage Cause Gives Next)
+stage_one Cause Gives Next one apart same next a b (stops r h e) (stops s k f) = e ∙ ap refused (one r s h k) ∙ sym f
+stage_one Cause Gives Next one apart same next a b (stops r h e) (goes y k f) = absurd (apart r y h k)
+stage_one Cause Gives Next one apart same next a b (goes x h e) (stops s k f) = absurd (apart s x k h)
+stage_one Cause Gives Next one apart same next a b (goes x h e) (goes y k f) = next x h a b e (subst (λ z. Next z b) (sym (same x y h k)) f)
 
-none_is : (o : Option (List ℕ)) → Some o ≡ Some None → o ≡ None
-none_is o e = cc
+-- ---- faults and refusals
 
-same_bytes : (files : Files) (name x y : List ℕ) → IsFile (Some (file_of name files)) x → IsFile (Some (file_of name files)) y → x ≡ y
-same_bytes files name x y e f = some_is (file_of name files) x y (file_is (file_of name files) x e) (file_is (file_of name files) y f)
+some_same : {A : Type 0} {x y : A} → Some x ≡ Some y → x ≡ y
+some_same e = cc
 
--- a file that isn't there has no bytes
-not_both : (files : Files) (name x : List ℕ) → Some (file_of name files) ≡ Some None → IsFile (Some (file_of name files)) x → ⊥
-not_both files name x e f = subst (λ (o : Option (List ℕ)). IsFile (Some o) x) (none_is (file_of name files) e) f
+none_some : {A : Type 0} {x : A} → None ≡ Some x → ⊥
+none_some e = cc
 
-read_unique : (files : Files) (name : List ℕ) (Next : List ℕ → Answer → Type 0) (a b : Answer) → ((bytes : List ℕ) → Next bytes a → Next bytes b → a ≡ b) → Read (Some files) name Next a → Read (Some files) name Next b → a ≡ b
-read_unique files name Next a b next (missing e p) (missing f q) = p ∙ sym q
-read_unique files name Next a b next (missing e p) (too_long x f l q) = absurd (not_both files name x e f)
-read_unique files name Next a b next (missing e p) (in_full x f l q) = absurd (not_both files name x e f)
-read_unique files name Next a b next (too_long x e l p) (missing f q) = absurd (not_both files name x f e)
-read_unique files name Next a b next (too_long x e l p) (too_long y f m q) = p ∙ sym q
-read_unique files name Next a b next (too_long x e l p) (in_full y f m q) = absurd (omega (arith, l, m, ap length (same_bytes files name x y e f)))
-read_unique files name Next a b next (in_full x e l p) (missing f q) = absurd (not_both files name x f e)
-read_unique files name Next a b next (in_full x e l p) (too_long y f m q) = absurd (omega (arith, l, m, ap length (same_bytes files name x y e f)))
-read_unique files name Next a b next (in_full x e l p) (in_full y f m q) = next x p (subst (λ (z : List ℕ). Next z b) (sym (same_bytes files name x y e f)) q)
+-- one fault has one refusal
+one_refusal : {F : Type 0} (refusal : F → Option Refusal) (f g : F) (r s : Refusal) → f ≡ g → refusal f ≡ Some r → refusal g ≡ Some s → r ≡ s
+one_refusal refusal f g r s e h k = some_same (sym h ∙ ap refusal e ∙ k)
 
--- the refusal that tells a fault
-refusal : ParseFault → Refused
-refusal (parser.Lex (lex.BadByte at)) = Faulty fault.BadByte at
-refusal (parser.Lex (lex.LongWord at)) = Faulty fault.LongWord at
-refusal (parser.Lex (lex.LongNumber at)) = Faulty fault.LongNumber at
-refusal (parser.Lex (lex.LeadingZero at)) = Faulty fault.LeadingZero at
-refusal (parser.Lex lex.Memory) = Usage
-refusal (parser.Syntax at) = Faulty fault.Syntax at
-refusal (parser.DeepBlock at) = Faulty fault.DeepBlock at
-refusal (parser.LongSum at) = Faulty fault.LongSum at
-refusal parser.Memory = Usage
+-- ---- files
 
-refusal_is : (k : TextFault) (at : ℕ) → refusal (fault_of k at) ≡ Faulty k at
-unfolding refusal
-refusal_is fault.BadByte at = refl
-refusal_is fault.LongWord at = refl
-refusal_is fault.LongNumber at = refl
-refusal_is fault.LeadingZero at = refl
-refusal_is fault.Syntax at = refl
-refusal_is fault.DeepBlock at = refl
-refusal_is fault.LongSum at = refl
+missing_apart : (o : Option (Option (List ℕ))) (bytes : List ℕ) → o ≡ Some None → IsFile o bytes → ⊥
+missing_apart o bytes e h = subst (λ (x : Option (Option (List ℕ))). IsFile x bytes) e h
 
-own_fault : (k : TextFault) (at : ℕ) → fault_of k at ≡ parser.Memory → ⊥
-own_fault fault.BadByte at e = cc
-own_fault fault.LongWord at e = cc
-own_fault fault.LongNumber at e = cc
-own_fault fault.LeadingZero at e = cc
-own_fault fault.Syntax at e = cc
-own_fault fault.DeepBlock at e = cc
-own_fault fault.LongSum at e = cc
+file_same : (o : Option (List ℕ)) (xs ys : List ℕ) → IsFile (Some o) xs → IsFile (Some o) ys → xs ≡ ys
+file_same None xs ys h k = absurd h
+file_same (Some bytes) xs ys h k = h ∙ sym k
 
-parsed_unique : (text : List ℕ) (Next : SurfaceProgram → Answer → Type 0) (a b : Answer) → ((p q : SurfaceProgram) → IsTextOf text p → IsTextOf text q → Next p a → Next q b → a ≡ b) → Parsed text Next a → Parsed text Next b → a ≡ b
-parsed_unique text Next a b next (faulty k at h e) (faulty l to d f) =
-    let same = faults_unique text (fault_of k at) (fault_of l to) (record { own = own_fault k at; first = h }) (record { own = own_fault l to; first = d }) in
-    e ∙ ap refused (sym (refusal_is k at) ∙ ap refusal same ∙ refusal_is l to) ∙ sym f
-parsed_unique text Next a b next (faulty k at h e) (parsed p d f) = absurd (faulty_apart text (fault_of k at) p (record { own = own_fault k at; first = h }) d)
-parsed_unique text Next a b next (parsed p d f) (faulty k at h e) = absurd (faulty_apart text (fault_of k at) p (record { own = own_fault k at; first = h }) d)
-parsed_unique text Next a b next (parsed p h e) (parsed q d f) = next p q h d e f
+module _ (files : Files) (name : List ℕ) where
+  one_file_refusal : (r s : Refusal) → RefusesFile (Some files) name r → RefusesFile (Some files) name s → r ≡ s
+  one_file_refusal (ReadFault f) (ReadFault g) h k = ap ReadFault (h.0 ∙ sym k.0)
+  one_file_refusal (ReadFault f) (TooLong g) h k = absurd (missing_apart (told_file (Some files) name) (k.1).bytes h.1 (k.1).there)
+  one_file_refusal (ReadFault f) s h k = absurd k
+  one_file_refusal (TooLong f) (ReadFault g) h k = absurd (missing_apart (told_file (Some files) name) (h.1).bytes k.1 (h.1).there)
+  one_file_refusal (TooLong f) (TooLong g) h k = ap TooLong (h.0 ∙ sym k.0)
+  one_file_refusal (TooLong f) s h k = absurd k
+  one_file_refusal r s h k = absurd h
 
-planned_unique : (text : List ℕ) (p p' : SurfaceProgram) → IsTextOf text p → IsTextOf text p' → (Next : PlainProgram → Answer → Type 0) (a b : Answer) → ((q : PlainProgram) → Next q a → Next q b → a ≡ b) → Planned p Next a → Planned p' Next b → a ≡ b
-planned_unique text p p' s t Next a b next (not_plain h e) (not_plain k f) = e ∙ sym f
-planned_unique text p p' s t Next a b next (not_plain h e) (plain q k f) = absurd (h q (moved_plain most_cuts text p p' q s t k))
-planned_unique text p p' s t Next a b next (plain q k f) (not_plain h e) = absurd (h q (moved_plain most_cuts text p' p q t s k))
-planned_unique text p p' s t Next a b next (plain q h e) (plain r k f) =
-    next q e (subst (λ (x : PlainProgram). Next x b) (sym (one_plain most_cuts p q r h (moved_plain most_cuts text p p' r s t k))) f)
+  file_apart : (r : Refusal) (bytes : List ℕ) → RefusesFile (Some files) name r → IsFileOf (Some files) name bytes → ⊥
+  file_apart (ReadFault f) bytes h k = missing_apart (told_file (Some files) name) bytes h.1 k.there
+  file_apart (TooLong f) bytes h k =
+      let long = h.1 in
+      let same : length long.bytes ≡ length bytes = ap length (file_same (file_of name files) long.bytes bytes long.there k.there) in
+      omega (arith, long.long, k.short, same)
+  file_apart r bytes h k = absurd h
 
-valued_unique : (bytes : List ℕ) (Next : List Valuation → Answer → Type 0) (a b : Answer) → ((vs : List Valuation) → Next vs a → Next vs b → a ≡ b) → Valued bytes Next a → Valued bytes Next b → a ≡ b
-valued_unique bytes Next a b next (no_valuations h e) (no_valuations k f) = e ∙ sym f
-valued_unique bytes Next a b next (no_valuations h e) (valuations vs k f) = absurd (h vs k)
-valued_unique bytes Next a b next (valuations vs k f) (no_valuations h e) = absurd (h vs k)
-valued_unique bytes Next a b next (valuations vs h e) (valuations ws k f) =
-    let both : Some vs ≡ Some ws = sym h.said ∙ k.said in
-    let same : ws ≡ vs = cc in
-    next vs e (subst (λ (us : List Valuation). Next us b) same f)
+  file_one : (Next : List ℕ → Answer → Type 0) → ((bytes : List ℕ) → One (Next bytes)) → One (WithFile (Some files) name Next)
+  file_one Next next =
+      stage_one (RefusesFile (Some files) name) (IsFileOf (Some files) name) Next one_file_refusal file_apart (λ x y h k. file_same (file_of name files) x y h.there k.there) (λ x h. next x)
 
-outcome_unique : (w : Walked Told) (a b : Answer) → IsOutcome w a → IsOutcome w b → a ≡ b
-outcome_unique (Good t) a b e f = e ∙ sym f
-outcome_unique (Stopped q) a b e f = e ∙ sym f
+-- ---- texts
 
-pub answer_unique : (files : Files) (c : Option Command) (a b : Answer) → IsAnswer (Some files) c a → IsAnswer (Some files) c b → a ≡ b
-answer_unique files None a b e f = e ∙ sym f
-answer_unique files (Some (print f)) a b h k =
-    read_unique files f (λ text. Parsed text (λ p x. x ≡ answer_of (canonical_text p) status.Good)) a b
-    (λ text. parsed_unique text (λ p x. x ≡ answer_of (canonical_text p) status.Good) a b
-    (λ p q s t e d. e ∙ ap (λ ts. answer_of (canonical ts) status.Good) (same_tokens text p q s t) ∙ sym d)) h k
-answer_unique files (Some (run f v)) a b h k =
-    read_unique files f (λ text. Parsed text (λ p. Planned p (λ q. Read (Some files) v (λ bytes. Valued bytes (λ vs. IsOutcome (least_outcome vs (core_of_program q))))))) a b
-    (λ text. parsed_unique text (λ p. Planned p (λ q. Read (Some files) v (λ bytes. Valued bytes (λ vs. IsOutcome (least_outcome vs (core_of_program q)))))) a b
-    (λ p p' s t. planned_unique text p p' s t (λ q. Read (Some files) v (λ bytes. Valued bytes (λ vs. IsOutcome (least_outcome vs (core_of_program q))))) a b
-    (λ q. read_unique files v (λ bytes. Valued bytes (λ vs. IsOutcome (least_outcome vs (core_of_program q)))) a b
-    (λ bytes. valued_unique bytes (λ vs. IsOutcome (least_outcome vs (core_of_program q))) a b (λ vs. outcome_unique (least_outcome vs (core_of_program q)) a b))))) h k
+own : (f : ParseFault) (r : Refusal) → text_refusal f ≡ Some r → f ≢ parser.Memory
+own f r h e = none_some (sym (ap text_refusal e) ∙ h)
 
-pub program_unique : ProgramsAreUnique
-program_unique text p q one other = same_program most_cuts text p q one other
+one_text_refusal : (text : List ℕ) (r s : Refusal) → RefusesText text r → RefusesText text s → r ≡ s
+one_text_refusal text r s (f, (h, is)) (g, (k, same)) =
+    one_refusal text_refusal f g r s (faults_unique text f g (record { own = own f r h; first = is }) (record { own = own g s k; first = same })) h k
+
+text_apart : (text : List ℕ) (r : Refusal) (p : PlainProgram) → RefusesText text r → IsProgramOf text p → ⊥
+text_apart text r p (f, (h, is)) k = faulty_apart text f p (record { own = own f r h; first = is }) k.spelled
+
+text_one : ReadProgramsAreUnique → (text : List ℕ) (Next : PlainProgram → Answer → Type 0) → ((p : PlainProgram) → IsProgramOf text p → One (Next p)) → One (Stage (RefusesText text) (IsProgramOf text) Next)
+text_one once text Next next = stage_one (RefusesText text) (IsProgramOf text) Next (one_text_refusal text) (text_apart text) (once text) next
+
+program_one : ReadProgramsAreUnique → (files : Files) (f : List ℕ) (Next : PlainProgram → Answer → Type 0) → ((text : List ℕ) (p : PlainProgram) → IsProgramOf text p → One (Next p)) → One (WithProgram (Some files) f Next)
+program_one once files f Next next = file_one files f _ (λ text. text_one once text Next (next text))
+
+-- ---- cores
+
+pub parsed_of : (text : List ℕ) (p : PlainProgram) → IsProgramOf text p → IsParsed p
+parsed_of text p is = record { spellable = is.spelled.spellable; limits = is.spelled.within; places = read_rises text p is.read }
+
+module _ (p : PlainProgram) (parsed : IsParsed p) where
+  one_core_refusal : (r s : Refusal) → RefusesCore p r → RefusesCore p s → r ≡ s
+  one_core_refusal r s (inl (f, (h, is))) (inl (g, (k, same))) = one_refusal rule_refusal f g r s (first_faults_unique p parsed f g is same) h k
+  one_core_refusal r s (inl (f, (h, is))) (inr k) = absurd (k.rules f is.stands)
+  one_core_refusal r s (inr h) (inl (g, (k, same))) = absurd (h.rules g same.stands)
+  one_core_refusal r s (inr h) (inr k) = one_refusal limit_refusal h.fault k.fault r s (some_same (sym h.first ∙ k.first)) h.told k.told
+
+  core_apart : (r : Refusal) (c : Core) → RefusesCore p r → IsCoreOf p c → ⊥
+  core_apart r c (inl (f, (h, is))) k = k.rules f is.stands
+  core_apart r c (inr h) k = none_some (sym k.limits ∙ h.first)
+
+  core_one : (Next : Core → Answer → Type 0) → ((c : Core) → IsCoreOf p c → One (Next c)) → One (Stage (RefusesCore p) (IsCoreOf p) Next)
+  core_one Next next = stage_one (RefusesCore p) (IsCoreOf p) Next one_core_refusal core_apart (λ c d h k. h.same ∙ sym k.same) next
+
+with_core_one : ReadProgramsAreUnique → (files : Files) (f : List ℕ) (Next : Core → Answer → Type 0) → ((c : Core) → 0 < c.agents → One (Next c)) → One (WithCore (Some files) f Next)
+with_core_one once files f Next next = program_one once files f _ (λ text p is. core_one p (parsed_of text p is) Next (λ c made. next c (some_agent text p c is made)))
+
+-- ---- runs
+
+told_is : {a b c : Answer} → a ≡ c → b ≡ c → a ≡ b
+told_is e f = e ∙ sym f
+
+good_same : {t u : Told} → Good t ≡ Good u → t ≡ u
+good_same e = cc
+
+refused_same : {w : Walked Told} {f g : RunFault} → w ≡ Refused f → w ≡ Refused g → f ≡ g
+refused_same e k = cc
+
+good_refused : {t : Told} {f : RunFault} → Good t ≡ Refused f → ⊥
+good_refused e = cc
+
+outcome_one : (w : Walked Told) → One (IsOutcome w)
+outcome_one w =
+    stage_one (RefusesRun w) (λ (t : Told). w ≡ Good t) _ (λ r s h k. one_refusal run_refusal h.0 k.0 r s (refused_same h.1.1 k.1.1) h.1.0 k.1.0)
+    (λ r t h k. good_refused (sym k ∙ h.1.1)) (λ t u h k. good_same (sym h ∙ k)) (λ t h a b e f. told_is e f)
+
+least_one : (bytes : List ℕ) (core : Core) → 0 < core.agents → One (TellsLeastRun bytes core)
+least_one bytes core some =
+    stage_one (RefusesValues bytes core.agents) (IsValuationFile bytes core.agents) _
+    (λ r s h k. one_refusal values_refusal h.0 k.0 r s (some_same (sym h.1.1 ∙ k.1.1)) h.1.0 k.1.0) (λ r vs h k. values_apart bytes core.agents vs h.0 some k h.1.1) (λ vs us h k. one_list bytes core.agents vs us h k)
+    (λ vs h. outcome_one (outcome vs core Least))
+
+given_one : (bytes : List ℕ) (core : Core) → 0 < core.agents → One (TellsGivenRun bytes core)
+given_one bytes core some =
+    stage_one (RefusesReplay bytes core.agents) (λ (file : List Valuation × List CutAnswer). IsReplayFile bytes core.agents file.0 file.1) _
+    (λ r s h k. one_refusal values_refusal h.0 k.0 r s (some_same (sym h.1.1 ∙ k.1.1)) h.1.0 k.1.0) (λ r file h k. replay_apart bytes core.agents file.0 file.1 h.0 some k h.1.1) (λ x y h k. replay_same bytes core.agents x y h k)
+    (λ file h. outcome_one (outcome file.0 core (Given file.1)))
+
+-- ---- all commands
+
+-- where a text is read as one program
+pub answer_unique : ReadProgramsAreUnique → AnswersAreUnique
+answer_unique once files None a b e f = told_is e f
+answer_unique once files (Some (check f)) a b h k = with_core_one once files f IsCheckAnswer (λ c some x y e g. told_is e g) a b h k
+answer_unique once files (Some (print f)) a b h k = program_one once files f IsPrintAnswer (λ text p is x y e g. told_is e g) a b h k
+answer_unique once files (Some (run f v)) a b h k = with_core_one once files f (IsRunAnswer (Some files) v) (λ c some. file_one files v _ (λ bytes. least_one bytes c some)) a b h k
+answer_unique once files (Some (replay f v)) a b h k = with_core_one once files f (IsReplayAnswer (Some files) v) (λ c some. file_one files v _ (λ bytes. given_one bytes c some)) a b h k

@@ -1,22 +1,29 @@
--- What is answered to a command over files, faults of devices and want of memory aside. Of a shelf that tells no files it is
--- said for some bytes of each file.
-use Rattle.std.specs.Prelude.{◌≡◌, ℕ, ◌<◌, ◌≤◌, List, [], ◌∷◌, length, Option, Some, None}
-use Rattle.slice_num.specs.Valuation.{Valuation}
+-- What is answered to a command over files, faults of devices and want of memory aside: by stages, in the order of refusals.
+-- Of a shelf that tells no files it is said for some bytes of each file.
+use Rattle.std.specs.Prelude.{◌≡◌, ℕ, List, Option, Some, None}
+use Rattle.serde_json.specs.Data.{Data}
 use Rattle.slice_json.specs.Texts.{line_of}
-use Rattle.slice_io.specs.Files.{Files, told_file, IsFile}
-use Rattle.slice_ast.specs.Code.{PlainProgram as SurfaceProgram}
+use Rattle.slice_num.specs.Valuation.{Valuation}
+use Rattle.slice_num.specs.declared.cut_answer.CutAnswer.{CutAnswer}
+use Rattle.slice_io.specs.Files.{Files}
+use Rattle.slice_ast.specs.Code.{PlainProgram}
 use Rattle.slice_ast.specs.Layout.{canonical_text}
-use Rattle.slice_parse.specs.Parsing.{IsFaultOf}
-use Rattle.slice_parse.specs.Laws.{IsTextOf}
-use Rattle.slice_run.specs.ValuationFile.{IsValuationFile}
-use Rattle.slice_run.specs.Walk.{Told, Divided, Halted, Walked, Good, Stopped, least_outcome}
-use Rattle.slice_top.specs.Commands.{Command, print, run}
-use Rattle.slice_top.specs.PlainProgram.{PlainProgram}
-use Rattle.slice_top.specs.PlainText.{IsPlainAs}
-use Rattle.slice_top.specs.PlainCore.{core_of_program}
-use Rattle.slice_top.specs.Refusals.{Refused, Usage, ReadFault, TooLong, Faulty, NotYet, BadValuations, Overflow, refused_json, refused_status, fault_of}
-use Rattle.slice_top.specs.RunReport.{told_json, envy}
-use Rattle.slice_top.specs.declared.refusal.TextFault.{TextFault}
+use Rattle.slice_parse.specs.Laws.{IsProgramOf}
+use Rattle.slice_core.specs.Tree.{Core}
+use Rattle.slice_step.specs.ValuationFile.{IsValuationFile, IsReplayFile}
+use Rattle.slice_run.specs.Walk.{Told, Walked, Good, outcome, Least, Given}
+use Rattle.slice_report.specs.Refusals.{refused_json}
+use Rattle.slice_report.specs.RunReport.{told_json}
+use Rattle.slice_report.specs.CoreReport.{core_json}
+use Rattle.slice_report.specs.declared.refusal.Refusal.{Refusal}
+use Rattle.slice_report.specs.declared.refusal.Refusal.TheVariants.{Usage}
+use Rattle.slice_top.specs.Commands.{Command, check, print, run, replay}
+use Rattle.slice_top.specs.Statuses.{refused_status}
+use Rattle.slice_top.specs.FilesRead.{IsFileOf, RefusesFile}
+use Rattle.slice_top.specs.Programs.{RefusesText}
+use Rattle.slice_top.specs.Cores.{IsCoreOf, RefusesCore}
+use Rattle.slice_top.specs.Values.{RefusesValues, RefusesReplay}
+use Rattle.slice_top.specs.Runs.{RefusesRun, told_status}
 use Rattle.slice_top.specs.declared.status.Status.{Status}
 use Rattle.slice_top.specs.declared.status.Status.TheVariants as status
 
@@ -28,69 +35,68 @@ pub record Answer : Type 0 where
 abbrev pub answer_of : List ℕ → Status → Answer
 answer_of text s = record { text = text; status = s }
 
-abbrev pub refused : Refused → Answer
-refused r = answer_of (line_of (refused_json r)) (refused_status r)
+abbrev pub one_line : Data → Status → Answer
+one_line d s = answer_of (line_of d) s
 
--- good where nobody is envied
-abbrev pub envy_status : List (ℕ × ℕ) → Status
-envy_status [] = status.Good
-envy_status (p ∷ ps) = status.Negative
+abbrev pub refused : Refusal → Answer
+refused r = one_line (refused_json r) (refused_status r)
 
--- good where the cake was divided without envy
-abbrev pub told_status : Told → Status
-told_status (Divided queries shares left values) = envy_status (envy values)
-told_status (Halted queries query at) = status.Negative
+-- ---- stages
 
-abbrev pub told_answer : Told → Answer
-told_answer t = answer_of (line_of (told_json t)) (told_status t)
+-- a stage is refused for a cause, or it gives something, from which the answer follows
+pub data Stage {X : Type 0} (Cause : Refusal → Type 0) (Gives : X → Type 0) (Next : X → Answer → Type 0) (a : Answer) : Type 0 where
+  stops : (r : Refusal) → Cause r → a ≡ refused r → Stage Cause Gives Next a
+  goes : (x : X) → Gives x → Next x a → Stage Cause Gives Next a
 
--- ---- the order of refusals
+-- a file is read
+abbrev pub WithFile : Option Files → List ℕ → (List ℕ → Answer → Type 0) → Answer → Type 0
+WithFile told name Next = Stage (RefusesFile told name) (IsFileOf told name) Next
 
--- the most bytes of a file
-abbrev pub limit : ℕ
-limit = 1048576
+-- the protocol's file is read, and its text as a program
+abbrev pub WithProgram : Option Files → List ℕ → (PlainProgram → Answer → Type 0) → Answer → Type 0
+WithProgram told f Next = WithFile told f (λ text. Stage (RefusesText text) (IsProgramOf text) Next)
 
--- the most cuts of a protocol
-abbrev pub most_cuts : ℕ
-most_cuts = 64
+-- the program is checked and expanded
+abbrev pub WithCore : Option Files → List ℕ → (Core → Answer → Type 0) → Answer → Type 0
+WithCore told f Next = WithProgram told f (λ p. Stage (RefusesCore p) (IsCoreOf p) Next)
 
--- a file is read: it isn't there, or it is too long, or its bytes decide; they are any bytes where the shelf tells nothing
-pub data Read (told : Option Files) (name : List ℕ) (Next : List ℕ → Answer → Type 0) (a : Answer) : Type 0 where
-  missing : told_file told name ≡ Some None → a ≡ refused (ReadFault name) → Read told name Next a
-  too_long : (bytes : List ℕ) → IsFile (told_file told name) bytes → limit < length bytes → a ≡ refused (TooLong name) → Read told name Next a
-  in_full : (bytes : List ℕ) → IsFile (told_file told name) bytes → length bytes ≤ limit → Next bytes a → Read told name Next a
+-- ---- commands
 
--- a text has a fault, the first in it, or the program that it spells decides, which is within the limits
-pub data Parsed (text : List ℕ) (Next : SurfaceProgram → Answer → Type 0) (a : Answer) : Type 0 where
-  faulty : (fault : TextFault) (at : ℕ) → IsFaultOf text (fault_of fault at) → a ≡ refused (Faulty fault at) → Parsed text Next a
-  parsed : (p : SurfaceProgram) → IsTextOf text p → Next p a → Parsed text Next a
+-- `print F`: the program's canonical text
+abbrev pub IsPrintAnswer : PlainProgram → Answer → Type 0
+IsPrintAnswer p a = a ≡ answer_of (canonical_text p) status.Good
 
--- a program isn't plain, places aside, or the plain program that it is decides
-pub data Planned (p : SurfaceProgram) (Next : PlainProgram → Answer → Type 0) (a : Answer) : Type 0 where
-  not_plain : ((q : PlainProgram) → IsPlainAs most_cuts p q → ⊥) → a ≡ refused NotYet → Planned p Next a
-  plain : (q : PlainProgram) → IsPlainAs most_cuts p q → Next q a → Planned p Next a
+-- `check F`: the line of the core's counts
+abbrev pub IsCheckAnswer : Core → Answer → Type 0
+IsCheckAnswer core a = a ≡ one_line (core_json core) status.Good
 
--- bytes are no file of valuations for two agents, or the valuations decide
-pub data Valued (bytes : List ℕ) (Next : List Valuation → Answer → Type 0) (a : Answer) : Type 0 where
-  no_valuations : ((vs : List Valuation) → IsValuationFile bytes 2 vs → ⊥) → a ≡ refused BadValuations → Valued bytes Next a
-  valuations : (vs : List Valuation) → IsValuationFile bytes 2 vs → Next vs a → Valued bytes Next a
-
--- what is told of the run, or the query to which the first number belongs that doesn't fit
+-- what is told of the run, or why it was given up
 abbrev pub IsOutcome : Walked Told → Answer → Type 0
-IsOutcome (Good told) a = a ≡ told_answer told
-IsOutcome (Stopped query) a = a ≡ refused (Overflow query)
+IsOutcome w = Stage (RefusesRun w) (λ (t : Told). w ≡ Good t) (λ t a. a ≡ one_line (told_json t) (told_status t))
 
--- `run F V`: F is read and parsed and must be plain, V is read and must hold valuations, and the least run is told
-abbrev pub IsRunAnswer : Option Files → List ℕ → List ℕ → Answer → Type 0
-IsRunAnswer told f v a =
-    Read told f (λ text. Parsed text (λ p. Planned p (λ q. Read told v (λ bytes. Valued bytes (λ vs. IsOutcome (least_outcome vs (core_of_program q))))))) a
+-- the file's valuations are read, one for each agent, and the least run is told
+abbrev pub TellsLeastRun : List ℕ → Core → Answer → Type 0
+TellsLeastRun bytes core = Stage (RefusesValues bytes core.agents) (IsValuationFile bytes core.agents) (λ vs. IsOutcome (outcome vs core Least))
 
--- `print F`: F is read and parsed, and its program's canonical text is written
-abbrev pub IsPrintAnswer : Option Files → List ℕ → Answer → Type 0
-IsPrintAnswer told f a = Read told f (λ text. Parsed text (λ p b. b ≡ answer_of (canonical_text p) status.Good)) a
+-- `run F V`: V is read, and the least run on its valuations is told
+abbrev pub IsRunAnswer : Option Files → List ℕ → Core → Answer → Type 0
+IsRunAnswer told v core = WithFile told v (λ bytes. TellsLeastRun bytes core)
+
+-- the file's valuations and answers are read, and the run with these answers is told
+abbrev pub TellsGivenRun : List ℕ → Core → Answer → Type 0
+TellsGivenRun bytes core = Stage (RefusesReplay bytes core.agents) (λ (file : List Valuation × List CutAnswer). IsReplayFile bytes core.agents file.0 file.1) (λ file. IsOutcome (outcome file.0 core (Given file.1)))
+
+-- `replay F V`: V is read, and the run on its valuations with its answers is told
+abbrev pub IsReplayAnswer : Option Files → List ℕ → Core → Answer → Type 0
+IsReplayAnswer told v core = WithFile told v (λ bytes. TellsGivenRun bytes core)
+
+abbrev pub IsAnswerTo : Option Files → Command → Answer → Type 0
+IsAnswerTo told (check f) = WithCore told f IsCheckAnswer
+IsAnswerTo told (print f) = WithProgram told f IsPrintAnswer
+IsAnswerTo told (run f v) = WithCore told f (IsRunAnswer told v)
+IsAnswerTo told (replay f v) = WithCore told f (IsReplayAnswer told v)
 
 -- the answer to the command of some words, if they are one
 abbrev pub IsAnswer : Option Files → Option Command → Answer → Type 0
 IsAnswer told None a = a ≡ refused Usage
-IsAnswer told (Some (print f)) a = IsPrintAnswer told f a
-IsAnswer told (Some (run f v)) a = IsRunAnswer told f v a
+IsAnswer told (Some c) a = IsAnswerTo told c a

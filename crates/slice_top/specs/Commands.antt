@@ -2,15 +2,26 @@
 use Rattle.std.specs.Prelude.{ℕ, List, [], ◌∷◌, length, nat_lt, ◌&&◌, codes, if◌then◌else◌, Option, Some, None}
 use Rattle.std.specs.Str.{bytes_eq}
 
--- `print F`: the protocol in the file F is written as its canonical text; `run F V`: the protocol in the file F is run on the valuations in the file V
+-- what is asked for; files go by name
 pub data Command : Type 0 where
+  check : (protocol : List ℕ) → Command
   print : (protocol : List ℕ) → Command
   run : (protocol values : List ℕ) → Command
+  replay : (protocol values : List ℕ) → Command
+
+-- `check F`: the protocol in the file F is checked and counted; `print F`: it is written as its canonical text
+abbrev pub of_one_file : List ℕ → List ℕ → Option Command
+of_one_file word f = if bytes_eq word (codes "check") then Some (check f) else (if bytes_eq word (codes "print") then Some (print f) else None)
+
+-- `run F V`: the protocol in the file F is run on the valuations in the file V; `replay F V`: with the answers to its cuts
+-- that stand there too
+abbrev pub of_two_files : List ℕ → List ℕ → List ℕ → Option Command
+of_two_files word f v = if bytes_eq word (codes "run") then Some (run f v) else (if bytes_eq word (codes "replay") then Some (replay f v) else None)
 
 -- the command of these words, those after the program's name; the name of a file is any text that isn't empty
 abbrev pub command_of : List (List ℕ) → Option Command
 command_of [] = None
 command_of (c ∷ []) = None
-command_of (c ∷ f ∷ []) = if bytes_eq c (codes "print") && nat_lt 0 (length f) then Some (print f) else None
-command_of (c ∷ f ∷ v ∷ []) = if bytes_eq c (codes "run") && (nat_lt 0 (length f) && nat_lt 0 (length v)) then Some (run f v) else None
+command_of (c ∷ f ∷ []) = if nat_lt 0 (length f) then of_one_file c f else None
+command_of (c ∷ f ∷ v ∷ []) = if nat_lt 0 (length f) && nat_lt 0 (length v) then of_two_files c f v else None
 command_of (c ∷ f ∷ v ∷ w ∷ ws) = None

@@ -2,9 +2,9 @@
 use Rattle.std.specs.Prelude.{◌≡◌, ℕ, List, take, codes, Option}
 use Rattle.slice_io.specs.Files.{Files}
 use Rattle.slice_io.specs.Told.{appended}
+use Rattle.slice_report.specs.declared.refusal.Refusal.TheVariants.{ReadFault}
 use Rattle.slice_top.specs.Commands.{Command}
 use Rattle.slice_top.specs.Turns.{ReadsFor}
-use Rattle.slice_top.specs.Refusals.{ReadFault}
 use Rattle.slice_top.specs.Answers.{Answer, IsAnswer, refused}
 use Rattle.slice_top.specs.declared.status.Status.{Status}
 use Rattle.slice_top.specs.declared.status.Status.TheVariants as status

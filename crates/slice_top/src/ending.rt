@@ -1,60 +1,58 @@
 // From the words to the status, with what is written on the way.
-ghost use Rattle.std.specs.Prelude.{◌≡◌, ◌≢◌, ◌↔◌, ◌⊎◌, ℕ, ◌<◌, ◌≤◌, List, length, map, Some, None, IfOk, IfErr, IfSome, IsSome, OnErr, OnOk};
+ghost use Rattle.std.specs.Prelude.{◌≡◌, ◌≢◌, ◌⊎◌, ℕ, ◌<◌, ◌≤◌, List, length, map, None, IfSome, OnErr, OnOk};
 ghost use Rattle.std.specs.String.{string_bytes};
 ghost use Rattle.slice_io.specs.Causes.{HasCause, Rose};
 ghost use Rattle.slice_io.specs.Told.{appended, FrontIsOut};
+ghost use Rattle.slice_json.specs.Texts.{line_of};
+ghost use Rattle.slice_report.specs.Refusals.{HasTexts, refused_json};
 ghost use Rattle.slice_top.specs.Commands.{command_of};
 ghost use Rattle.slice_top.specs.Turns.{ReadsFor};
-ghost use Rattle.slice_top.specs.Answers.{IsAnswer, answer_of};
-ghost use Rattle.slice_top.specs.Reports.{Whole, Reports, memory_line};
-ghost use Rattle.slice_top.specs.Stops.{StopsBy, RefusesCommand, IsWorked, IsWritten, IsUsageOrFree};
+ghost use Rattle.slice_top.specs.Reports.{Reports, memory_line};
+ghost use Rattle.slice_top.specs.Statuses.{IsUsageOrFree, refused_status};
+ghost use Rattle.slice_top.specs.Settled.{Settled};
 
 use crate::command::command_of;
-use crate::refusal::{Refusal, Stop, refusal_line};
 use crate::status::Status;
+use crate::stop::Stop;
 use crate::work::{Output, work};
 use slice_io::{Shelf, Sink, WriteFault, put_all};
+use slice_report::{Refusal, refusal_line};
 use std::alloc::Global;
 
 // Told where memory is wanted; it takes none.
 const MEMORY_LINE: &[u8] = b"{\"refused\":\"memory\"}\n";
-
-// What the words' command writes.
-fn answer<S: Shelf>(alloc: Global, shelf: &mut S, words: &Vec<String>) -> Result<Output, Stop>
-    requires asked { (n : List ℕ) → ReadsFor (S.told shelf.old) (command_of (map string_bytes words.now.items)) n → S.CanAsk shelf.old n }
-    ensures same { S.told shelf.new ≡ S.told shelf.old }
-    ensures later { S.faults shelf.old ≤ S.faults shelf.new }
-    ensures worked { IfOk result (λ l. IsWorked l.status × IsSome (command_of (map string_bytes words.now.items))) }
-    ensures ok { IfOk result (λ l. IsAnswer (S.told shelf.old) (command_of (map string_bytes words.now.items)) (answer_of l.bytes.items l.status)) }
-    ensures err { IfErr result (StopsBy (RefusesCommand (S.told shelf.old) (command_of (map string_bytes words.now.items)) (Rose (S.faults shelf.old) (S.faults shelf.new)))) }
-{
-    match command_of(words) {
-        Some(command) => work(alloc, shelf, command),
-        None => Err(Stop::Refused(Refusal::Usage)),
-    }
-}
 
 // What the words' command writes, or the line of its refusal, or want of memory.
 fn settle<S: Shelf>(alloc: Global, shelf: &mut S, words: &Vec<String>) -> Option<Output>
     requires asked { (n : List ℕ) → ReadsFor (S.told shelf.old) (command_of (map string_bytes words.now.items)) n → S.CanAsk shelf.old n }
     ensures same { S.told shelf.new ≡ S.told shelf.old }
     ensures later { S.faults shelf.old ≤ S.faults shelf.new }
-    ensures written { IfSome result (λ l. IsWritten l.status) }
-    ensures usage { IfSome result (λ l. (l.status ≡ Status.Usage) ↔ (command_of (map string_bytes words.now.items) ≡ None)) }
-    ensures read { IfSome result (λ l. l.status ≡ Status.ReadFault → Rose (S.faults shelf.old) (S.faults shelf.new)) }
-    ensures whole { IfSome result (λ l. Whole (S.told shelf.old) (command_of (map string_bytes words.now.items)) l.bytes.items l.status) }
+    ensures settled { IfSome result (Settled (S.told shelf.old) (command_of (map string_bytes words.now.items)) (S.faults shelf.old) (S.faults shelf.new)) }
 {
-    match answer(alloc, shelf, words) {
+    let Some(command) = command_of(words) else {
+        return refused(alloc, &Refusal::Usage);
+    };
+    match work(alloc, shelf, command) {
         Ok(line) => Some(line),
-        Err(Stop::Refused(refusal)) => match refusal_line(alloc, &refusal) {
-            Ok(bytes) => Some(Output {
-                bytes,
-                status: refusal.status(),
-            }),
-            Err(_) => None,
-        },
+        Err(Stop::Refused(refusal)) => refused(alloc, &refusal),
+        Err(Stop::Unread { file }) => refused(alloc, &Refusal::ReadFault { file }),
         Err(Stop::Memory) => None,
     }
+}
+
+// The line of a refusal, and its status.
+fn refused(alloc: Global, refusal: &Refusal) -> Option<Output>
+    requires { HasTexts refusal.now }
+    ensures bytes { IfSome result (λ l. l.bytes.items ≡ line_of (refused_json refusal.now)) }
+    ensures status { IfSome result (λ l. l.status ≡ refused_status refusal.now) }
+{
+    let Ok(bytes) = refusal_line(alloc, refusal) else {
+        return None;
+    };
+    Some(Output {
+        bytes,
+        status: Status::of_refusal(refusal),
+    })
 }
 
 // How many bytes the first line has, with its LF, where it has one.
@@ -101,22 +99,24 @@ fn finish<K: Sink>(sink: &mut K, bytes: &[u8], status: Status) -> Status
 /// Does what the words ask for, those after the program's name: reads files from the shelf, writes
 /// the answer to the sink, and tells with what status the program ends.
 ///
-/// `print F` writes the canonical text of the program in the file F, line by line. `run F V` runs the protocol in the
-/// file F on the valuations in the file V, and writes one line.
+/// `check F` writes one line with the counts of the core of the protocol in the file F. `print F` writes its canonical text,
+/// line by line. `run F V` runs it on the valuations in the file V, where each cut is answered by the least right answer, and
+/// `replay F V` with the answers that stand in V; each writes one line.
 /// What stops them is told by one line too, the first of these: the words are no command (`Usage`); F can't be read
 /// (`ReadFault`) or has more than 1,048,576 bytes (`Refused`); its text has a fault, the first of which is told with its
-/// place (`Refused`); for `run`, the program isn't plain (`Refused`); V can't be read or is too long; it has no
-/// valuations for the protocol's agents (`Refused`); a number of the run doesn't fit (`Limit`). `ReadFault` comes only
+/// place (`Refused`); and, where more than `print` is asked for, the program breaks a rule, the first of which is told
+/// (`Refused`), or passes a limit of expansion (`Limit`); V can't be read, is too long, or has a fault of form (`Refused`);
+/// an answer is refused (`Refused`), or a number of the run doesn't fit (`Limit`). `ReadFault` comes only
 /// where the shelf's count of faults rose, and `WriteFault` only where the sink's did; then a front of what was to be
-/// written is out. The sink gets line after line. The shelf is asked for V only once F is known to be plain, so a
-/// `ReadFault` names V only then. `Memory` may come at any time, and writes a line of its own.
+/// written is out. The sink gets line after line. The shelf is asked for V only once F's program keeps the rules and passes
+/// no limit, so a `ReadFault` names V only then. `Memory` may come at any time, and writes a line of its own.
 pub fn top<S: Shelf, K: Sink>(
     alloc: Global,
     words: &Vec<String>,
     shelf: &mut S,
     sink: &mut K,
 ) -> Status
-    // V is asked for only once F is known to be plain.
+    // V is asked for only once F's program keeps the rules and passes no limit.
     requires asked { (n : List ℕ) → ReadsFor (S.told shelf.old) (command_of (map string_bytes words.now.items)) n → S.CanAsk shelf.old n }
     ensures same { S.told shelf.new ≡ S.told shelf.old }
     ensures later { (S.faults shelf.old ≤ S.faults shelf.new) × (K.faults sink.old ≤ K.faults sink.new) }

@@ -1,23 +1,31 @@
-//! Laws of the definitions that [`top`](crate::top)'s contract rests on.
-ghost use Rattle.slice_top.specs.LeastRuns.{AnswersAreUnique, AnswersExist, OutcomesAreLeastRuns, ProgramsAreUnique};
+//! Laws of the definitions that [`top`](crate::top)'s contract rests on. No function does anything: its clauses are the
+//! laws.
+ghost use Rattle.slice_top.specs.Laws.{AnswersAreUnique, AnswersExist, ReplayRefusesTheRun, ReplayTellsTheRun, RunStopsAtNumbers, RunTellsTheLeastRun};
 
-/// What is told of a plain text and valuations is told of the program's least run, where each cut is answered by the
-/// least right point: its values are the share-values, its envious pairs are those who envy, and where it is done, shares
-/// and what is left are disjoint and make up the cake.
-pub fn outcomes_are_least_runs()
-    ensures { OutcomesAreLeastRuns }
+use slice_parse::parsings_are_unique;
+
+/// What `run` tells is told of the least run of the program in the file, in which each cut is answered by the least right
+/// answer: its queries, shares and what is left, its share-values and those who envy; where it is done, shares and what
+/// is left are disjoint and make up the cake. It is given up only where a number doesn't fit.
+pub fn run_tells_the_least_run()
+    ensures told { RunTellsTheLeastRun }
+    ensures stops { RunStopsAtNumbers }
 {}
 
-/// A plain text is a plain text of one program alone.
-pub fn programs_are_unique()
-    ensures { ProgramsAreUnique }
+/// What `replay` tells is told, in the same way, of the run of the program with the answers that are given; where it
+/// refuses an answer, that run is refused for it.
+pub fn replay_tells_the_run()
+    ensures told { ReplayTellsTheRun }
+    ensures refused { ReplayRefusesTheRun }
 {}
 
 /// Files and a command have one answer: [`top`](crate::top)'s report leaves no choice but that of the devices and of
 /// memory.
 pub fn answers_are_unique()
     ensures { AnswersAreUnique }
-{}
+{
+    parsings_are_unique();
+}
 
 /// Files and a command have an answer, whatever the files hold.
 pub fn answers_exist()

@@ -5,16 +5,19 @@
 #![tactic(auto)]
 
 pub mod command;
+mod cores;
 mod ending;
+mod files;
 mod laws;
-pub mod plain;
-pub mod refusal;
-pub mod report;
+mod programs;
+mod runs;
 pub mod status;
+mod stop;
+mod values;
 mod work;
 
 pub use ending::{end_for_memory, top};
-pub use laws::{answers_are_unique, answers_exist, outcomes_are_least_runs, programs_are_unique};
+pub use laws::{answers_are_unique, answers_exist, replay_tells_the_run, run_tells_the_least_run};
 pub use status::Status;
 
 #[cfg(test)]

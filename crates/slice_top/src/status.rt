@@ -1,11 +1,13 @@
 //! How the program ends.
 ghost use Rattle.std.specs.Prelude.{◌≡◌};
-ghost use Rattle.slice_top.specs.Stops.{code_of};
+ghost use Rattle.slice_top.specs.Statuses.{code_of, refused_status};
+
+use slice_report::Refusal;
 
 /// How the program ends.
 #[derive(Clone, Copy, Debug, PartialEq, Eq)]
 pub enum Status {
-    /// The work was done: a text was printed, or nobody is envied.
+    /// The work was done: a text was printed, a core was counted, or nobody is envied.
     Good,
     /// The run got stuck, or someone is envied.
     Negative,
@@ -15,9 +17,9 @@ pub enum Status {
     ReadFault,
     /// The report couldn't be written whole: the sink's count of faults rose.
     WriteFault,
-    /// A file is too long, or isn't of its form.
+    /// A file is too long, isn't of its form or breaks a rule, or an answer was refused.
     Refused,
-    /// A number doesn't fit.
+    /// A limit was passed, or a number doesn't fit.
     Limit,
     /// Want of memory.
     Memory,
@@ -37,6 +39,28 @@ impl Status {
             Status::Refused => 5,
             Status::Limit => 6,
             Status::Memory => 7,
+        }
+    }
+
+    /// The status of a refusal.
+    pub fn of_refusal(refusal: &Refusal) -> Status
+        ensures { result ≡ refused_status refusal.now }
+    {
+        match refusal {
+            Refusal::Usage => Status::Usage,
+            Refusal::ReadFault { .. } => Status::ReadFault,
+            Refusal::NodeLimit
+            | Refusal::DepthLimit
+            | Refusal::CutLimit
+            | Refusal::CallLimit
+            | Refusal::GoalLimit
+            | Refusal::RunOverflow { .. }
+            | Refusal::FormOverflow { .. }
+            | Refusal::ProverOverflow { .. }
+            | Refusal::CheckOverflow { .. }
+            | Refusal::PivotLimit { .. }
+            | Refusal::HeightLimit { .. } => Status::Limit,
+            _ => Status::Refused,
         }
     }
 }

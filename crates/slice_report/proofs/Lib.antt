@@ -1,0 +1,4 @@
+pub mod EnvyPairs
+pub mod Lists
+pub mod TellsEnvy
+pub mod Texts

@@ -1,0 +1,4 @@
+pub mod CoreReport
+pub mod EnvyLaws
+pub mod Refusals
+pub mod RunReport

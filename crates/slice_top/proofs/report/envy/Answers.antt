@@ -1,8 +1,0 @@
-use Rattle.std.proofs.Common.{map}
-use Rattle.slice_top.specs.RunReport.{envy_of}
-use Rattle.slice_top.proofs.Envy.{all_more}
-use Rattle.slice_top.proofs.report.envy.Goals as goal
-
-pub loop-i-preserved : goal.loop-i-preserved
-loop-i-preserved c =
-    all_more (envy_of (map (λ row. row.items) c.args.values.now)) c.loop-i.i c.loop-i.pairs.items _ c.loop-i.invariant c.in_ok-add_envy.ensures

@@ -1,5 +1,0 @@
-use Rattle.slice_top.proofs.Lists.{pieces_listed}
-use Rattle.slice_top.proofs.report.shares_json.Goals as goal
-
-pub returns : goal.returns
-returns c = rw (← c.shares.ensures, ← pieces_listed c.shares.result.now) c.list.ensures
