@@ -1,14 +1,10 @@
 // The whole call over files and an output in memory: what is written, and with what status.
 ghost use Rattle.std.specs.Prelude.{◌<◌};
 
-mod checked;
 mod expanded;
-mod rows;
 
 use crate::{Status, top};
-use checked::CHECKED;
 use expanded::EXPANDED;
-use rows::{FILES, ROWS};
 use slice_io::{MemoryShelf, MemorySink, NamedFile};
 use std::alloc::{AllocError, Global};
 use std::test::Fail;
@@ -24,10 +20,6 @@ const HALF_LINE: &str =
 
 // A file's name and its text.
 type Text<'a> = (&'a str, &'a str);
-
-// One call of the program: the words, the numbers of the failing reads and writes, what is
-// written, and the status.
-type Row<'a> = (&'a [&'a str], &'a [u64], &'a [u64], &'a str, Status);
 
 fn words_of(alloc: Global, words: &[&str]) -> Result<Vec<String>, AllocError> {
     let mut list = Vec::new(alloc);
@@ -48,21 +40,6 @@ fn files_of(alloc: Global, texts: &[Text]) -> Result<Vec<NamedFile>, AllocError>
     Ok(files)
 }
 
-#[test]
-fn each_command_writes_its_lines(rt: HostRuntime) -> Result<(), Fail> {
-    let alloc = rt.alloc();
-    for (words, reads, writes, wanted, status) in ROWS {
-        let words = words_of(alloc, words)?;
-        let files = files_of(alloc, FILES)?;
-        let mut shelf = MemoryShelf::new(files, 5000, Vec::from_slice(alloc, reads)?);
-        let mut sink = MemorySink::new(alloc, 9000, 9000, Vec::from_slice(alloc, writes)?)?;
-        let got = top(alloc, &words, &mut shelf, &mut sink);
-        assert_eq!(rt; got, *status, "{wanted}");
-        assert!(rt; sink.bytes() == wanted.as_bytes(), "{wanted}");
-    }
-    Ok(())
-}
-
 // The status and what a command writes about this text, on a cake that is worth the same everywhere to one agent.
 fn told(alloc: Global, command: &str, text: &str) -> Result<(Status, Vec<u8>), Fail> {
     let values: &[Text] = &[
@@ -79,22 +56,6 @@ fn told(alloc: Global, command: &str, text: &str) -> Result<(Status, Vec<u8>), F
     let status = top(alloc, &words, &mut shelf, &mut sink);
     let out = Vec::from_slice(alloc, sink.bytes())?;
     Ok((status, out))
-}
-
-// An empty line stands for a program that keeps the rules.
-#[test]
-fn the_first_fault_is_told(rt: HostRuntime) -> Result<(), Fail> {
-    let alloc = rt.alloc();
-    for (text, wanted) in CHECKED {
-        let (status, out) = told(alloc, "check", text)?;
-        if wanted.is_empty() {
-            assert_eq!(rt; status, Status::Good, "{text}");
-        } else {
-            assert_eq!(rt; status, Status::Refused, "{text}");
-            assert!(rt; out.as_slice() == wanted.as_bytes(), "{text}");
-        }
-    }
-    Ok(())
 }
 
 #[test]
