@@ -1,12 +1,17 @@
 // The whole call over files and an output in memory: what is written, and with what status.
 ghost use Rattle.std.specs.Prelude.{◌<◌};
 
+mod checked;
 mod expanded;
+mod files;
+mod rows;
 
 use crate::{Status, top};
 use expanded::EXPANDED;
+use files::{PROTOCOLS, VALUES};
 use slice_io::{MemoryShelf, MemorySink, NamedFile};
 use std::alloc::{AllocError, Global};
+use std::process::Abort;
 use std::test::Fail;
 
 const HALF: &str =
@@ -21,6 +26,10 @@ const HALF_LINE: &str =
 // A file's name and its text.
 type Text<'a> = (&'a str, &'a str);
 
+// One call of the program: the words, the numbers of the failing reads and writes, what is
+// written, and the status.
+type Row<'a> = (&'a [&'a str], &'a [u64], &'a [u64], &'a str, Status);
+
 fn words_of(alloc: Global, words: &[&str]) -> Result<Vec<String>, AllocError> {
     let mut list = Vec::new(alloc);
     for word in words {
@@ -29,15 +38,51 @@ fn words_of(alloc: Global, words: &[&str]) -> Result<Vec<String>, AllocError> {
     Ok(list)
 }
 
-fn files_of(alloc: Global, texts: &[Text]) -> Result<Vec<NamedFile>, AllocError> {
+fn files_of(alloc: Global, tables: &[&[Text]]) -> Result<Vec<NamedFile>, AllocError> {
     let mut files = Vec::new(alloc);
-    for (name, text) in texts {
-        files.push(NamedFile {
-            name: String::from_str(alloc, name)?,
-            bytes: Vec::from_slice(alloc, text.as_bytes())?,
-        })?;
+    for texts in tables {
+        for (name, text) in *texts {
+            files.push(NamedFile {
+                name: String::from_str(alloc, name)?,
+                bytes: Vec::from_slice(alloc, text.as_bytes())?,
+            })?;
+        }
     }
     Ok(files)
+}
+
+// Runs each row's command over the files.
+fn each(rt: &impl Abort, alloc: Global, rows: &[Row]) -> Result<(), Fail> {
+    for (words, reads, writes, wanted, status) in rows {
+        let words = words_of(alloc, words)?;
+        let files = files_of(alloc, &[PROTOCOLS, VALUES])?;
+        let mut shelf = MemoryShelf::new(files, 5000, Vec::from_slice(alloc, reads)?);
+        let mut sink = MemorySink::new(alloc, 9000, 9000, Vec::from_slice(alloc, writes)?)?;
+        let got = top(alloc, &words, &mut shelf, &mut sink);
+        assert_eq!(rt; got, *status, "{wanted}");
+        assert!(rt; sink.bytes() == wanted.as_bytes(), "{wanted}");
+    }
+    Ok(())
+}
+
+#[test]
+fn texts_are_checked_and_printed(rt: HostRuntime) -> Result<(), Fail> {
+    each(&rt, rt.alloc(), rows::TEXTS)
+}
+
+#[test]
+fn programs_run_by_their_least_answers(rt: HostRuntime) -> Result<(), Fail> {
+    each(&rt, rt.alloc(), rows::RUNS)
+}
+
+#[test]
+fn programs_run_by_given_answers(rt: HostRuntime) -> Result<(), Fail> {
+    each(&rt, rt.alloc(), rows::REPLAYS)
+}
+
+#[test]
+fn runs_are_refused(rt: HostRuntime) -> Result<(), Fail> {
+    each(&rt, rt.alloc(), rows::REFUSED)
 }
 
 // The status and what a command writes about this text, on a cake that is worth the same everywhere to one agent.
@@ -51,11 +96,95 @@ fn told(alloc: Global, command: &str, text: &str) -> Result<(Status, Vec<u8>), F
     } else {
         words_of(alloc, &[command, "f.slice"])?
     };
-    let mut shelf = MemoryShelf::new(files_of(alloc, values)?, 1_048_576, Vec::new(alloc));
+    let mut shelf = MemoryShelf::new(files_of(alloc, &[values])?, 1_048_576, Vec::new(alloc));
     let mut sink = MemorySink::new(alloc, 9000, 9000, Vec::new(alloc))?;
     let status = top(alloc, &words, &mut shelf, &mut sink);
     let out = Vec::from_slice(alloc, sink.bytes())?;
     Ok((status, out))
+}
+
+// An empty line stands for a program that keeps the rules.
+fn first_faults(rt: &impl Abort, alloc: Global, table: &[Text]) -> Result<(), Fail> {
+    for (text, wanted) in table {
+        let (status, out) = told(alloc, "check", text)?;
+        if wanted.is_empty() {
+            assert_eq!(rt; status, Status::Good, "{text}");
+        } else {
+            assert_eq!(rt; status, Status::Refused, "{text}");
+            assert!(rt; out.as_slice() == wanted.as_bytes(), "{text}");
+        }
+    }
+    Ok(())
+}
+
+#[test]
+fn names_are_in_scope(rt: HostRuntime) -> Result<(), Fail> {
+    first_faults(&rt, rt.alloc(), checked::NAMES)
+}
+
+#[test]
+fn names_are_bound_once(rt: HostRuntime) -> Result<(), Fail> {
+    first_faults(&rt, rt.alloc(), checked::BINDINGS)
+}
+
+#[test]
+fn pieces_are_used_once(rt: HostRuntime) -> Result<(), Fail> {
+    first_faults(&rt, rt.alloc(), checked::USES)
+}
+
+#[test]
+fn agents_and_counts_are_in_range(rt: HostRuntime) -> Result<(), Fail> {
+    first_faults(&rt, rt.alloc(), checked::NUMBERS)
+}
+
+#[test]
+fn the_first_fault_is_told(rt: HostRuntime) -> Result<(), Fail> {
+    first_faults(&rt, rt.alloc(), checked::ORDER)
+}
+
+// Procedures that do nothing, named by these numbers.
+fn procedures(alloc: Global, from: u32, to: u32) -> Result<String, Fail> {
+    let mut text = String::new(alloc);
+    for i in from..to {
+        text.push_str(format!(in alloc; "procedure a{i}() {{ }} ")?.as_str())?;
+    }
+    Ok(text)
+}
+
+#[test]
+fn a_file_has_at_most_64_procedures(rt: HostRuntime) -> Result<(), Fail> {
+    let alloc = rt.alloc();
+    let good = "{\"agents\":1,\"cuts\":0,\"depth\":1,\"nodes\":1,\"protocol\":\"p\"}\n";
+    for (from, to, more, wanted, status) in [
+        (0u32, 64u32, "", good, Status::Good),
+        (
+            10,
+            75,
+            "",
+            "{\"at\":1290,\"refused\":\"ProcLimit\"}\n",
+            Status::Refused,
+        ),
+        (
+            0,
+            64,
+            "procedure b() { } procedure c() { } ",
+            "{\"at\":1280,\"refused\":\"ProcLimit\"}\n",
+            Status::Refused,
+        ),
+        (
+            0,
+            64,
+            "procedure a7() { } ",
+            "{\"at\":1280,\"name\":\"a7\",\"refused\":\"Rebound\"}\n",
+            Status::Refused,
+        ),
+    ] {
+        let mut text = procedures(alloc, from, to)?;
+        text.push_str(more)?;
+        text.push_str("protocol p agents 1 { }")?;
+        assert!(rt; answers(alloc, text.as_str(), wanted, status)?, "{wanted}");
+    }
+    Ok(())
 }
 
 #[test]
@@ -166,7 +295,7 @@ fn half_run(
     requires { 0 < piece }
 {
     let words = words_of(alloc, &["run", "half.slice", "v.json"])?;
-    let files = files_of(alloc, &[("half.slice", HALF), ("v.json", UNIFORM)])?;
+    let files = files_of(alloc, &[&[("half.slice", HALF), ("v.json", UNIFORM)]])?;
     let mut shelf = MemoryShelf::new(files, piece, Vec::from_slice(alloc, reads)?);
     let mut sink = MemorySink::new(alloc, 1000, piece, Vec::from_slice(alloc, writes)?)?;
     let status = top(alloc, &words, &mut shelf, &mut sink);
