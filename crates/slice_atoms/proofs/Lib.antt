@@ -1,0 +1,5 @@
+pub mod Addressed
+pub mod AtomOrder
+pub mod Cuts
+pub mod Items
+pub mod PartCounts
