@@ -1,0 +1,15 @@
+pub mod Ahead
+pub mod Coming
+pub mod Events
+pub mod Goals
+pub mod Places
+pub mod Points
+pub mod RowsMade
+pub mod RunLaws
+pub mod Same
+pub mod Spots
+pub mod Steps
+pub mod Sums
+pub mod Told
+pub mod Walking
+pub mod Ways
