@@ -2,10 +2,14 @@
 //! the simplex method.
 #![tactic(auto)]
 
+#[cfg(test)]
+mod elimination;
 pub mod laws;
 mod multipliers;
 mod pivots;
 pub mod prover;
+#[cfg(test)]
+mod random;
 mod solution;
 #[cfg(test)]
 mod tests;

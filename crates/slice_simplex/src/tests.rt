@@ -130,6 +130,13 @@ const CASES: &[Case] = &[
         limit: 3,
         end: End::Feasible(&[2, 3]),
     },
+    // x + y > 0, 2x + y = 0, x >= 0: at the third pivot the lists of two rows differ in one slack alone, after which only that
+    // of t + s = 1 comes, which is the right side again.
+    Case {
+        rows: &[(Above, &[1, 1]), (Zero, &[2, 1]), (AtLeast, &[1, 0])],
+        limit: 3,
+        end: End::Refuted(&[1, -1, 0]),
+    },
     // 0 > 0.
     Case {
         rows: &[(Above, &[0, 0])],
@@ -210,7 +217,7 @@ fn is_over(row: &Row, wide: usize) -> bool
 }
 
 // Whether there is a row and an unknown, and all rows are over one width and fit.
-fn are_rows(rows: &[Row]) -> bool
+pub(crate) fn are_rows(rows: &[Row]) -> bool
     ensures { IsTrue result → AreRowsOver (width rows.now) rows.now }
 {
     if rows.len() == 0 {
