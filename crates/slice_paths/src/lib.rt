@@ -13,6 +13,3 @@ mod walk;
 
 pub use goal::{Goal, GoalFault, GoalKind};
 pub use stream::GoalStream;
-
-#[cfg(test)]
-mod tests;
