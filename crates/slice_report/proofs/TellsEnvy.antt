@@ -9,8 +9,7 @@ use Rattle.slice_num.proofs.Values.{share_of_nothing}
 use Rattle.slice_core.specs.Measures.{worth_of, valuation_of}
 use Rattle.slice_num.specs.Pieces.{piece_at}
 use Rattle.slice_core.specs.Run.{Piece}
-use Rattle.slice_run.specs.RunLaws.{TellsValues}
-use Rattle.slice_run.specs.Walk.{Told, Divided, Halted}
+use Rattle.slice_run.specs.Walk.{Divided, Halted}
 use Rattle.slice_report.specs.EnvyLaws.{ToldEnvyIsEnvy}
 use Rattle.slice_report.specs.RunReport.{value_of}
 

@@ -1,5 +1,5 @@
 -- A name is a text.
-use Rattle.std.proofs.Common.{◌≡◌, ◌<◌, ℕ, zero, suc, List, [], ◌∷◌, length, refl, sym, Bool, true, false, true≢false, if◌then◌else◌, ◌&&◌, arith}
+use Rattle.std.proofs.Common.{◌<◌, ℕ, zero, suc, List, [], ◌∷◌, length, refl, sym, Bool, true, false, true≢false, if◌then◌else◌, ◌&&◌, arith}
 use Rattle.std.specs.Prelude.{IsTrue, nat_le, slice_index}
 use Rattle.std.specs.Result.{MatchResult, IsOk}
 use Rattle.std.specs.declared.result.Result.{Result}

@@ -1,4 +1,5 @@
 pub mod CoreReport
 pub mod EnvyLaws
+pub mod GoalReport
 pub mod Refusals
 pub mod RunReport

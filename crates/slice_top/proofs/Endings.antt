@@ -1,8 +1,8 @@
 -- What is out at the end.
-use Rattle.std.proofs.Common.{◌≡◌, ◌≢◌, ◌≤◌, ◌∙◌, ℕ, ◌+◌, ◌-◌, List, length, take, drop, Option, Some, None, Result, Ok, Err, ◌⊎◌, inl, inr, ap, sym, refl, arith}
-use Rattle.std.proofs.Math.Seq.{take-add}
-use Rattle.std.proofs.lemmas.List.{length-take, take-take}
-use Rattle.std.specs.Prelude.{OnErr, IfSome, Bool, true, false, if◌then◌else◌}
+use Rattle.std.proofs.Common.{◌≡◌, ◌≢◌, ◌≤◌, ◌∙◌, ℕ, ◌+◌, ◌-◌, List, [], ◌++◌, length, take, drop, Option, Some, None, Result, Ok, Err, ◌⊎◌, inl, inr, ap, sym, refl, arith}
+use Rattle.std.proofs.Math.Seq.{take-add, take-append-add}
+use Rattle.std.proofs.lemmas.List.{append-nil, length-take, take-take}
+use Rattle.std.specs.Prelude.{OnErr, Bool, true, false, if◌then◌else◌}
 use Rattle.slice_io.specs.Files.{Files}
 use Rattle.slice_io.specs.Told.{appended, appended-append, FrontIsOut}
 use Rattle.slice_io.specs.Causes.{Rose}
@@ -12,19 +12,56 @@ use Rattle.slice_report.specs.declared.refusal.Refusal.{Refusal}
 use Rattle.slice_report.specs.declared.refusal.Refusal.TheVariants.{Usage, ReadFault, TooLong, Unbound, Rebound, UsedTwice}
 use Rattle.slice_top.specs.Commands.{Command}
 use Rattle.slice_top.specs.Turns.{ReadsFor}
-use Rattle.slice_top.specs.Answers.{IsAnswer, refused, answer_of}
-use Rattle.slice_top.specs.Reports.{Whole, answered, unread, whole, cut, Reports}
-use Rattle.slice_top.specs.Settled.{IsOwn, Settled}
+use Rattle.slice_top.specs.Answers.{Answer, IsAnswer, refused, answer_of}
+use Rattle.slice_top.specs.Reports.{AreLines, none, IsOut, nothing, first_lines, Whole, answered, unread, starved, whole, cut, memory_line, Reports}
+use Rattle.slice_top.specs.Settled.{Wrote, WroteFront, Ends, StopsIn, LinesStop, IsOwn, IsLast, IsRefused, Settled}
 use Rattle.slice_top.specs.Statuses.{IsWorked, IsWritten, is_limit, refused_status}
-use Rattle.slice_top.specs.Stops.{IsOfWork}
+use Rattle.slice_top.specs.Stops.{IsOfWork, StopsBy}
+use Rattle.slice_top.specs.declared.ending.Ending.{Ending}
+use Rattle.slice_top.specs.declared.ending.Ending.TheVariants as ending
+use Rattle.slice_top.specs.declared.stop.Stop.{Stop}
+use Rattle.slice_top.specs.declared.stop.Stop.TheVariants as stop
 use Rattle.slice_top.specs.declared.work.Output.{Output}
 use Rattle.slice_top.specs.declared.status.Status.{Status}
 use Rattle.slice_top.specs.declared.status.Status.TheVariants as status
 
--- ---- the line of an answer
+-- ---- what was written
 
-pub line_whole : (told : Option Files) (c : Option Command) (line : List ℕ) (s : Status) → IsAnswer told c (answer_of line s) → Whole told c line s
-line_whole told c line s h = answered (answer_of line s) h refl refl
+appended_nothing : (told : Option (List ℕ)) → told ≡ appended told []
+appended_nothing None = refl
+appended_nothing (Some before) = ap Some (sym (append-nil before))
+
+wrote_nothing : (before after : Option (List ℕ)) (Kind : List ℕ → Type 0) → after ≡ before → Kind [] → Wrote before after Kind
+wrote_nothing before after Kind e h = record { out = []; told = e ∙ appended_nothing before; is = h }
+
+-- the last lines of an answer before which nothing was written
+pub ends_at_once : (Kind : Answer → Type 0) (out : Option (List ℕ)) (bytes : List ℕ) (s : Status) → Kind (answer_of bytes s) → Ends Kind out out bytes s
+ends_at_once Kind out bytes s h = wrote_nothing out out (λ xs. AreLines xs × Kind (answer_of (xs ++ bytes) s)) refl (none refl, h)
+
+-- work that writes nothing stops
+pub stops_at_once : (Kind : Answer → Type 0) (Turn : List ℕ → Type 0) (shelf sink : Type 0) (out : Option (List ℕ)) (s : Stop) → StopsBy (λ r. Kind (refused r)) Turn shelf s → StopsIn Kind Turn shelf sink out out s
+stops_at_once Kind Turn shelf sink out (stop.Refused r) h = (ends_at_once Kind out (line_of (refused_json r)) (refused_status r) h.0, h.1)
+stops_at_once Kind Turn shelf sink out (stop.Unread file) h = (refl, h)
+stops_at_once Kind Turn shelf sink out stop.Memory h = wrote_nothing out out (IsOut Kind) refl (nothing refl)
+stops_at_once Kind Turn shelf sink out stop.Unwritten h = absurd h
+
+-- one kind of answer for another
+pub ends_so : (Kind Other : Answer → Type 0) (before after : Option (List ℕ)) (bytes : List ℕ) (s : Status) → ((a : Answer) → Kind a → Other a) → Ends Kind before after bytes s → Ends Other before after bytes s
+ends_so Kind Other before after bytes s f h = record { out = h.out; told = h.told; is = (h.is.0, f (answer_of (h.out ++ bytes) s) h.is.1) }
+
+out_so : (Kind Other : Answer → Type 0) (bytes : List ℕ) → ((a : Answer) → Kind a → Other a) → IsOut Kind bytes → IsOut Other bytes
+out_so Kind Other bytes f (nothing e) = nothing e
+out_so Kind Other bytes f (first_lines a h l rest e) = first_lines a (f a h) l rest e
+
+-- and work that reads no file in work that does
+pub lines_stop_in : (Kind Other : Answer → Type 0) (Turn : List ℕ → Type 0) (shelf sink : Type 0) (before after : Option (List ℕ)) (s : Stop)
+    → ((a : Answer) → Kind a → Other a) → LinesStop Kind sink before after s → StopsIn Other Turn shelf sink before after s
+lines_stop_in Kind Other Turn shelf sink before after (stop.Refused r) f h = (ends_so Kind Other before after (line_of (refused_json r)) (refused_status r) f h.0, h.1)
+lines_stop_in Kind Other Turn shelf sink before after (stop.Unread file) f h = absurd h.1.0
+lines_stop_in Kind Other Turn shelf sink before after stop.Memory f h = record { out = h.out; told = h.told; is = out_so Kind Other h.out f h.is }
+lines_stop_in Kind Other Turn shelf sink before after stop.Unwritten f h = (record { answer = h.0.answer; is = f h.0.answer h.0.is; front = h.0.front }, h.1)
+
+-- ---- what is settled
 
 -- the words of a refusal of work are texts
 pub work_texts : (r : Refusal) → IsOfWork r → HasTexts r
@@ -54,55 +91,51 @@ worked_own s h = absurd h
 some_none : {A : Type 0} (x : A) → Some x ≡ None → ⊥
 some_none x e = cc
 
--- a line with a status of its own, of a command
-own_settled : (told : Option Files) (k : Command) (before now : ℕ) (l : Output) → IsOwn l.status → Whole told (Some k) l.bytes.items l.status → Settled told (Some k) before now l
-own_settled told k before now l o w = record {
-  written = o.written;
-  usage = (λ e. absurd (o.not_usage e), λ e. absurd (some_none k e));
-  read = λ e. absurd (o.not_read e);
-  whole = w;
-}
+module _ (told : Option Files) (k : Command) (shelf : Type 0) (before after : Option (List ℕ)) where
+  -- a status of its own, of a command
+  own_last : (l : Output) → IsOwn l.status → Wrote before after (λ out. Whole told (Some k) (out ++ l.bytes.items) l.status) → IsLast told (Some k) shelf before after l
+  own_last l o w = record {
+    written = o.written;
+    usage = (λ e. absurd (o.not_usage e), λ e. absurd (some_none k e));
+    read = λ e. absurd (o.not_read e);
+    whole = w;
+  }
 
-pub worked_settled : (told : Option Files) (k : Command) (before now : ℕ) (l : Output) → IsWorked l.status → IsAnswer told (Some k) (answer_of l.bytes.items l.status) → Settled told (Some k) before now l
-worked_settled told k before now l w h = own_settled told k before now l (worked_own l.status w) (line_whole told (Some k) l.bytes.items l.status h)
+  pub worked_settled : (l : Output) → IsWorked l.status → Ends (IsAnswer told (Some k)) before after l.bytes.items l.status → IsLast told (Some k) shelf before after l
+  worked_settled l w h =
+      own_last l (worked_own l.status w) (record { out = h.out; told = h.told; is = answered (answer_of (h.out ++ l.bytes.items) l.status) h.is.1 refl refl })
 
--- the line of a refusal
-abbrev pub IsLineOf : Refusal → Output → Type 0
-IsLineOf r l = (l.bytes.items ≡ line_of (refused_json r)) × (l.status ≡ refused_status r)
+  pub refused_settled : (sink : Type 0) (r : Refusal) → IsOfWork r → Ends (IsAnswer told (Some k)) before after (line_of (refused_json r)) (refused_status r)
+      → (e : Ending) → IsRefused r e → Settled told (Some k) shelf sink before after e
+  refused_settled sink r w h (ending.Last l) line =
+      own_last l (rw line.1 (work_own r w)) (record {
+        out = h.out;
+        told = h.told;
+        is = answered (answer_of (h.out ++ line_of (refused_json r)) (refused_status r)) h.is.1 line.1 (ap (λ xs. h.out ++ xs) line.0);
+      })
+  refused_settled sink r w h ending.Starved line =
+      record { out = h.out; told = h.told; is = first_lines (answer_of (h.out ++ line_of (refused_json r)) (refused_status r)) h.is.1 h.is.0 (line_of (refused_json r)) refl }
+  refused_settled sink r w h ending.Unwritten line = absurd line
 
-pub refused_settled : (told : Option Files) (k : Command) (before now : ℕ) (r : Refusal) (l : Output) → IsOfWork r → IsAnswer told (Some k) (refused r) → IsLineOf r l → Settled told (Some k) before now l
-refused_settled told k before now r l w h line = own_settled told k before now l (rw line.1 (work_own r w)) (answered (refused r) h line.1 line.0)
+  pub unread_settled : (sink : Type 0) (file : List ℕ) → after ≡ before → ReadsFor told (Some k) file → shelf → (e : Ending) → IsRefused (ReadFault file) e → Settled told (Some k) shelf sink before after e
+  unread_settled sink file same h rose (ending.Last l) line = record {
+    written = rw line.1 tt;
+    usage = (λ e. let bad : status.ReadFault ≡ status.Usage = sym line.1 ∙ e in absurd cc, λ e. absurd (some_none k e));
+    read = λ e. rose;
+    whole = wrote_nothing before after (λ out. Whole told (Some k) (out ++ l.bytes.items) l.status) same (unread file h line.1 line.0);
+  }
+  unread_settled sink file same h rose ending.Starved line = wrote_nothing before after (IsOut (IsAnswer told (Some k))) same (nothing refl)
+  unread_settled sink file same h rose ending.Unwritten line = absurd line
 
-pub unread_settled : (told : Option Files) (k : Command) (before now : ℕ) (file : List ℕ) (l : Output) → ReadsFor told (Some k) file → Rose before now → IsLineOf (ReadFault file) l → Settled told (Some k) before now l
-unread_settled told k before now file l h rose line = record {
-  written = rw line.1 tt;
-  usage = (λ e. let bad : status.ReadFault ≡ status.Usage = sym line.1 ∙ e in absurd cc, λ e. absurd (some_none k e));
-  read = λ e. rose;
-  whole = unread file h line.1 line.0;
-}
-
-pub usage_settled : (told : Option Files) (before now : ℕ) (l : Output) → IsLineOf Usage l → Settled told None before now l
-usage_settled told before now l line = record {
+pub usage_settled : (told : Option Files) (shelf sink : Type 0) (out : Option (List ℕ)) (e : Ending) → IsRefused Usage e → Settled told None shelf sink out out e
+usage_settled told shelf sink out (ending.Last l) line = record {
   written = rw line.1 tt;
   usage = (λ e. refl, λ e. line.1);
   read = λ e. let bad : status.Usage ≡ status.ReadFault = sym line.1 ∙ e in absurd cc;
-  whole = answered (refused Usage) refl line.1 line.0;
+  whole = wrote_nothing out out (λ xs. Whole told None (xs ++ l.bytes.items) l.status) refl (answered (refused Usage) refl line.1 line.0);
 }
-
--- what holds of an output, where there is one
-pub if_some_so : {T : Type 0} (P Q : T → Type 0) → ((x : T) → P x → Q x) → (o : Option T) → IfSome o P → IfSome o Q
-if_some_so P Q f (Some x) h = f x h
-if_some_so P Q f None h = tt
-
-pub if_some_both : {T : Type 0} (P Q : T → Type 0) (o : Option T) → IfSome o P → IfSome o Q → IfSome o (λ x. P x × Q x)
-if_some_both P Q (Some x) h k = (h, k)
-if_some_both P Q None h k = tt
-
--- the line of a refusal settles what it settles
-pub line_settles : (Q : Output → Type 0) (r : Refusal) (o : Option Output) → ((l : Output) → IsLineOf r l → Q l)
-    → IfSome o (λ l. l.bytes.items ≡ line_of (refused_json r)) → IfSome o (λ l. l.status ≡ refused_status r) → IfSome o Q
-line_settles Q r (Some l) f b s = f l (b, s)
-line_settles Q r None f b s = tt
+usage_settled told shelf sink out ending.Starved line = wrote_nothing out out (IsOut (IsAnswer told None)) refl (nothing refl)
+usage_settled told shelf sink out ending.Unwritten line = absurd line
 
 -- ---- line by line
 
@@ -137,11 +170,31 @@ on_err (Err e) h = h
 
 -- ---- the bytes are written, or cut off
 
-pub report_of : (told : Option Files) (c : Option Command) (before after : Option (List ℕ)) (bytes : List ℕ) (s r : Status) → Whole told c bytes s
-    → (r ≡ s) ⊎ (r ≡ status.WriteFault) → (r ≢ status.WriteFault → after ≡ appended before bytes) → (r ≡ status.WriteFault → FrontIsOut before after bytes) → s ≢ status.WriteFault → Reports told c before after r
-report_of told c before after bytes s r w (inl e) out front apart = record { bytes = bytes; out = out (λ x. apart (sym e ∙ x)); is = rw e (whole w) }
-report_of told c before after bytes s r w (inr e) out front apart =
-    let g = front e in record { bytes = take g.count bytes; out = g.out; is = cut bytes s w g.count refl e }
+pub last_report : (told : Option Files) (c : Option Command) (before mid after : Option (List ℕ)) (bytes : List ℕ) (s r : Status) → Wrote before mid (λ out. Whole told c (out ++ bytes) s)
+    → (r ≡ s) ⊎ (r ≡ status.WriteFault) → (r ≢ status.WriteFault → after ≡ appended mid bytes) → (r ≡ status.WriteFault → FrontIsOut mid after bytes) → s ≢ status.WriteFault → Reports told c before after r
+last_report told c before mid after bytes s r w (inl e) out front apart = record {
+  bytes = w.out ++ bytes;
+  out = out (λ x. apart (sym e ∙ x)) ∙ ap (λ m. appended m bytes) w.told ∙ appended-append before w.out bytes;
+  is = rw e (whole w.is);
+}
+last_report told c before mid after bytes s r w (inr e) out front apart =
+    let g = front e in record {
+      bytes = w.out ++ take g.count bytes;
+      out = g.out ∙ ap (λ m. appended m (take g.count bytes)) w.told ∙ appended-append before w.out (take g.count bytes);
+      is = cut (w.out ++ bytes) s w.is (length w.out + g.count) (sym (take-append-add w.out bytes g.count)) e;
+    }
+
+-- memory was wanted
+pub starved_whole : (told : Option Files) (c : Option Command) (before mid : Option (List ℕ)) → Wrote before mid (IsOut (IsAnswer told c)) → Wrote before mid (λ out. Whole told c (out ++ memory_line) status.Memory)
+starved_whole told c before mid w = record { out = w.out; told = w.told; is = starved w.out w.is refl refl }
+
+-- a line couldn't be written
+pub unwritten_report : (told : Option Files) (c : Option Command) (before after : Option (List ℕ)) → WroteFront before after (IsAnswer told c) → Reports told c before after status.WriteFault
+unwritten_report told c before after w = record {
+  bytes = take w.front.count w.answer.text;
+  out = w.front.out;
+  is = cut w.answer.text w.answer.status (answered w.answer w.is refl refl) w.front.count refl refl;
+}
 
 pub written_apart : (s : Status) → IsWritten s → s ≢ status.WriteFault
 written_apart s w e = absurd (rw e at w)

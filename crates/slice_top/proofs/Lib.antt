@@ -1,6 +1,8 @@
 pub mod Endings
 pub mod Faults
+pub mod Fair
 pub mod FileFaults
+pub mod GoalLines
 pub mod Outcomes
 pub mod SomeAnswers
 pub mod Stages

@@ -33,11 +33,12 @@ use Rattle.slice_run.specs.declared.outcome.RunFault.{RunFault}
 use Rattle.slice_run.specs.declared.outcome.RunFault.TheVariants as fault
 use Rattle.slice_run.specs.Walk.{Told, Walked, Good, Refused, outcome, Least, Given}
 use Rattle.slice_report.specs.RunReport.{told_json}
+use Rattle.slice_paths.specs.Events.{events_of}
 use Rattle.slice_report.specs.CoreReport.{core_json}
 use Rattle.slice_report.specs.declared.refusal.Refusal.{Refusal}
 use Rattle.slice_report.specs.declared.refusal.Refusal.TheVariants as refusal
-use Rattle.slice_top.specs.Answers.{Answer, answer_of, one_line, refused, Stage, stops, goes, WithFile, WithProgram, WithCore, IsPrintAnswer, IsCheckAnswer, IsRunAnswer, IsReplayAnswer, TellsLeastRun, TellsGivenRun, IsOutcome, IsAnswer}
-use Rattle.slice_top.specs.Commands.{Command, check, print, run, replay}
+use Rattle.slice_top.specs.Answers.{Answer, answer_of, one_line, refused, Stage, stops, goes, WithFile, WithProgram, WithCore, IsPrintAnswer, IsCheckAnswer, IsPathsAnswer, goals_answer, IsRunAnswer, IsReplayAnswer, TellsLeastRun, TellsGivenRun, IsOutcome, IsAnswer}
+use Rattle.slice_top.specs.Commands.{Command, check, print, paths, run, replay}
 use Rattle.slice_top.specs.Cores.{RefusesCore, IsCoreOf, rule_refusal, limit_refusal}
 use Rattle.slice_top.specs.FilesRead.{IsFileOf, RefusesFile, limit}
 use Rattle.slice_top.specs.Laws.{AnswersExist}
@@ -200,6 +201,7 @@ pub some_answer : AnswersExist
 some_answer files None = (refused refusal.Usage, refl)
 some_answer files (Some (check f)) = some_core files f IsCheckAnswer (λ text p c is made. (one_line (core_json c) status.Good, refl))
 some_answer files (Some (print f)) = some_program files f IsPrintAnswer (λ text p is. (answer_of (canonical_text p) status.Good, refl))
+some_answer files (Some (paths f)) = some_core files f IsPathsAnswer (λ text p c is made. (goals_answer (events_of c) 0, refl))
 some_answer files (Some (run f v)) =
     some_core files f (IsRunAnswer (Some files) v) (λ text p c is made. some_file files v (λ bytes. TellsLeastRun bytes c) (λ bytes. some_least text bytes p c is made))
 some_answer files (Some (replay f v)) =

@@ -21,18 +21,21 @@ pub stops_for : (P Q : Refusal → Type 0) → ((r : Refusal) → P r → Q r) �
 stops_for P Q f (stop.Refused r) h = (f r h.0, h.1)
 stops_for P Q f (stop.Unread file) h = h
 stops_for P Q f stop.Memory h = tt
+stops_for P Q f stop.Unwritten h = h
 
 -- work that reads no file in work that does
 pub stops_from : (P Q : Refusal → Type 0) (T : List ℕ → Type 0) (rose : Type 0) → ((r : Refusal) → P r → Q r) → (s : Stop) → StopsFor P s → StopsBy Q T rose s
 stops_from P Q T rose f (stop.Refused r) h = (f r h.0, h.1)
 stops_from P Q T rose f (stop.Unread file) h = absurd h
 stops_from P Q T rose f stop.Memory h = tt
+stops_from P Q T rose f stop.Unwritten h = h
 
 -- a cause, a turn and a count for others
 pub stops_by : (P Q : Refusal → Type 0) (T U : List ℕ → Type 0) (rose rise : Type 0) → ((r : Refusal) → P r → Q r) → ((file : List ℕ) → T file → U file) → (rose → rise) → (s : Stop) → StopsBy P T rose s → StopsBy Q U rise s
 stops_by P Q T U rose rise f g up (stop.Refused r) h = (f r h.0, h.1)
 stops_by P Q T U rose rise f g up (stop.Unread file) h = (g file h.0, (up h.1.0, h.1.1))
 stops_by P Q T U rose rise f g up stop.Memory h = tt
+stops_by P Q T U rose rise f g up stop.Unwritten h = h
 
 pub rose_earlier : (a b n : ℕ) → a ≤ b → Rose b n → Rose a n
 rose_earlier a b n h r = omega (arith, h, r)

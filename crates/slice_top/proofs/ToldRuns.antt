@@ -28,7 +28,8 @@ use Rattle.slice_run.proofs.GivenRun.{given_walks}
 use Rattle.slice_run.proofs.LeastRun.{least_walks}
 use Rattle.slice_report.proofs.TellsEnvy.{tells_envy}
 use Rattle.slice_top.specs.Cores.{IsCoreOf}
-use Rattle.slice_top.specs.Laws.{run_on, TellsEnd, IsToldOf, IsBadEnd, IsRefusedSo, RunTellsTheLeastRun, RunStopsAtNumbers, ReplayTellsTheRun, ReplayRefusesTheRun}
+use Rattle.slice_top.specs.Headline.{run_on}
+use Rattle.slice_top.specs.Laws.{TellsEnd, IsToldOf, IsBadEnd, IsRefusedSo, RunTellsTheLeastRun, RunStopsAtNumbers, ReplayTellsTheRun, ReplayRefusesTheRun}
 
 -- ---- the trace aside
 
@@ -80,7 +81,7 @@ pub core_formed : (text : List ℕ) (p : PlainProgram) (core : Core) → IsProgr
 core_formed text p core is made = checked_cores_are_well_formed p is.spelled.spellable (read_rises text p is.read) made.rules made.limits
 
 -- the run of the core is that of the program
-kept : (vs : List Valuation) (p : PlainProgram) (ys : List CutAnswer) → without_trace (core_run_on vs (core_of p) ys) ≡ run_on vs p ys
+pub kept : (vs : List Valuation) (p : PlainProgram) (ys : List CutAnswer) → without_trace (core_run_on vs (core_of p) ys) ≡ run_on vs p ys
 kept vs p ys = run_is_kept (worth_of vs) p (length_of vs) ys
 
 told_run : (vs : List Valuation) (p : PlainProgram) (ys : List CutAnswer) (t : Told) → IsWellFormed (core_of p) → Tells (core_run_on vs (core_of p) ys) t → TellsValues vs t → IsToldOf vs p ys t

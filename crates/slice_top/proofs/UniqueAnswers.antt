@@ -19,8 +19,8 @@ use Rattle.slice_run.specs.declared.outcome.RunFault.{RunFault}
 use Rattle.slice_run.specs.Walk.{Told, Walked, Good, Refused, outcome, Least, Given}
 use Rattle.slice_report.specs.declared.refusal.Refusal.{Refusal}
 use Rattle.slice_report.specs.declared.refusal.Refusal.TheVariants.{ReadFault, TooLong}
-use Rattle.slice_top.specs.Answers.{Answer, refused, Stage, stops, goes, WithFile, WithProgram, WithCore, IsPrintAnswer, IsCheckAnswer, IsRunAnswer, IsReplayAnswer, TellsLeastRun, TellsGivenRun, IsOutcome, IsAnswer}
-use Rattle.slice_top.specs.Commands.{Command, check, print, run, replay}
+use Rattle.slice_top.specs.Answers.{Answer, refused, Stage, stops, goes, WithFile, WithProgram, WithCore, IsPrintAnswer, IsCheckAnswer, IsPathsAnswer, IsRunAnswer, IsReplayAnswer, TellsLeastRun, TellsGivenRun, IsOutcome, IsAnswer}
+use Rattle.slice_top.specs.Commands.{Command, check, print, paths, run, replay}
 use Rattle.slice_top.specs.Cores.{RefusesRules, RefusesLimits, RefusesCore, IsCoreOf, rule_refusal, limit_refusal}
 use Rattle.slice_top.specs.FilesRead.{IsFileOf, RefusesFile}
 use Rattle.slice_top.specs.Laws.{AnswersAreUnique}
@@ -163,5 +163,6 @@ pub answer_unique : ReadProgramsAreUnique → AnswersAreUnique
 answer_unique once files None a b e f = told_is e f
 answer_unique once files (Some (check f)) a b h k = with_core_one once files f IsCheckAnswer (λ c some x y e g. told_is e g) a b h k
 answer_unique once files (Some (print f)) a b h k = program_one once files f IsPrintAnswer (λ text p is x y e g. told_is e g) a b h k
+answer_unique once files (Some (paths f)) a b h k = with_core_one once files f IsPathsAnswer (λ c some x y e g. told_is e g) a b h k
 answer_unique once files (Some (run f v)) a b h k = with_core_one once files f (IsRunAnswer (Some files) v) (λ c some. file_one files v _ (λ bytes. least_one bytes c some)) a b h k
 answer_unique once files (Some (replay f v)) a b h k = with_core_one once files f (IsReplayAnswer (Some files) v) (λ c some. file_one files v _ (λ bytes. given_one bytes c some)) a b h k

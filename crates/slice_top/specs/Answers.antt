@@ -1,6 +1,6 @@
 -- What is answered to a command over files, faults of devices and want of memory aside: by stages, in the order of refusals.
 -- Of a shelf that tells no files it is said for some bytes of each file.
-use Rattle.std.specs.Prelude.{◌≡◌, ℕ, List, Option, Some, None}
+use Rattle.std.specs.Prelude.{◌≡◌, ℕ, ◌+◌, nat_lt, if◌then◌else◌, List, [], ◌∷◌, ◌++◌, Option, Some, None}
 use Rattle.serde_json.specs.Data.{Data}
 use Rattle.slice_json.specs.Texts.{line_of}
 use Rattle.slice_num.specs.Valuation.{Valuation}
@@ -12,12 +12,14 @@ use Rattle.slice_parse.specs.Laws.{IsProgramOf}
 use Rattle.slice_core.specs.Tree.{Core}
 use Rattle.slice_step.specs.ValuationFile.{IsValuationFile, IsReplayFile}
 use Rattle.slice_run.specs.Walk.{Told, Walked, Good, outcome, Least, Given}
+use Rattle.slice_paths.specs.Events.{Event, Meets, Breaks, events_of, goal_at, goal_limit}
+use Rattle.slice_report.specs.GoalReport.{count_json, goal_json}
 use Rattle.slice_report.specs.Refusals.{refused_json}
 use Rattle.slice_report.specs.RunReport.{told_json}
 use Rattle.slice_report.specs.CoreReport.{core_json}
 use Rattle.slice_report.specs.declared.refusal.Refusal.{Refusal}
-use Rattle.slice_report.specs.declared.refusal.Refusal.TheVariants.{Usage}
-use Rattle.slice_top.specs.Commands.{Command, check, print, run, replay}
+use Rattle.slice_report.specs.declared.refusal.Refusal.TheVariants.{Usage, GoalLimit, FormOverflow}
+use Rattle.slice_top.specs.Commands.{Command, check, print, paths, run, replay}
 use Rattle.slice_top.specs.Statuses.{refused_status}
 use Rattle.slice_top.specs.FilesRead.{IsFileOf, RefusesFile}
 use Rattle.slice_top.specs.Programs.{RefusesText}
@@ -70,6 +72,22 @@ IsPrintAnswer p a = a ≡ answer_of (canonical_text p) status.Good
 abbrev pub IsCheckAnswer : Core → Answer → Type 0
 IsCheckAnswer core a = a ≡ one_line (core_json core) status.Good
 
+-- a line, and then the rest of an answer
+abbrev pub after_line : Data → Answer → Answer
+after_line d a = answer_of (line_of d ++ a.text) a.status
+
+-- a line for each goal that is ahead, where so many were given before, and then one of their count; or why a goal is refused
+abbrev pub goals_answer : List Event → ℕ → Answer
+goals_answer [] given = one_line (count_json given) status.Good
+goals_answer (Breaks ∷ es) given = refused (FormOverflow given)
+goals_answer (Meets t ∷ es) given =
+    if nat_lt given goal_limit then (if t.fit then after_line (goal_json (goal_at given t)) (goals_answer es (given + 1)) else refused (FormOverflow given))
+    else refused GoalLimit
+
+-- `paths F`: the goals of the core
+abbrev pub IsPathsAnswer : Core → Answer → Type 0
+IsPathsAnswer core a = a ≡ goals_answer (events_of core) 0
+
 -- what is told of the run, or why it was given up
 abbrev pub IsOutcome : Walked Told → Answer → Type 0
 IsOutcome w = Stage (RefusesRun w) (λ (t : Told). w ≡ Good t) (λ t a. a ≡ one_line (told_json t) (told_status t))
@@ -93,6 +111,7 @@ IsReplayAnswer told v core = WithFile told v (λ bytes. TellsGivenRun bytes core
 abbrev pub IsAnswerTo : Option Files → Command → Answer → Type 0
 IsAnswerTo told (check f) = WithCore told f IsCheckAnswer
 IsAnswerTo told (print f) = WithProgram told f IsPrintAnswer
+IsAnswerTo told (paths f) = WithCore told f IsPathsAnswer
 IsAnswerTo told (run f v) = WithCore told f (IsRunAnswer told v)
 IsAnswerTo told (replay f v) = WithCore told f (IsReplayAnswer told v)
 

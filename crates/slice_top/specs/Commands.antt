@@ -6,12 +6,17 @@ use Rattle.std.specs.Str.{bytes_eq}
 pub data Command : Type 0 where
   check : (protocol : List ℕ) → Command
   print : (protocol : List ℕ) → Command
+  paths : (protocol : List ℕ) → Command
   run : (protocol values : List ℕ) → Command
   replay : (protocol values : List ℕ) → Command
 
--- `check F`: the protocol in the file F is checked and counted; `print F`: it is written as its canonical text
+-- `check F`: the protocol in the file F is checked and counted; `print F`: it is written as its canonical text; `paths F`: what
+-- has to be refuted of it is written
 abbrev pub of_one_file : List ℕ → List ℕ → Option Command
-of_one_file word f = if bytes_eq word (codes "check") then Some (check f) else (if bytes_eq word (codes "print") then Some (print f) else None)
+of_one_file word f =
+    if bytes_eq word (codes "check") then Some (check f)
+    else (if bytes_eq word (codes "print") then Some (print f)
+    else (if bytes_eq word (codes "paths") then Some (paths f) else None))
 
 -- `run F V`: the protocol in the file F is run on the valuations in the file V; `replay F V`: with the answers to its cuts
 -- that stand there too

@@ -1,15 +1,18 @@
--- What the answers to commands say of the protocol in the file: what `run` and `replay` tell is told of its runs, and each
--- command has one answer.
-use Rattle.std.specs.Prelude.{◌≡◌, ℕ, ⊤, List, [], ◌∷◌, ◌++◌, length, slice_get, take, Option, Some, None}
+-- What the answers to commands say of the protocol in the file: what `run` and `replay` tell is told of its runs, where
+-- the goals that `paths` tells have no solution every run is fair, and each command has one answer.
+use Rattle.std.specs.List.{All}
+use Rattle.std.specs.Prelude.{◌≡◌, ℕ, ℤ, ⊤, List, [], ◌∷◌, ◌++◌, length, slice_get, take, Option, Some, None}
 use Rattle.slice_num.specs.Pieces.{joined}
 use Rattle.slice_num.specs.Valuation.{Valuation}
 use Rattle.slice_num.specs.declared.cut_answer.CutAnswer.{CutAnswer}
 use Rattle.slice_io.specs.Files.{Files}
 use Rattle.slice_ast.specs.Code.{PlainProgram}
 use Rattle.slice_parse.specs.Laws.{IsProgramOf}
-use Rattle.slice_core.specs.Measures.{worth_of, length_of}
+use Rattle.slice_core.specs.Measures.{length_of}
 use Rattle.slice_core.specs.Tree.{Core}
-use Rattle.slice_expand.specs.ProgramRun.{ProgramEnd, Done, Stuck, Few, Bad, Many, run_program}
+use Rattle.slice_expand.specs.ProgramRun.{ProgramEnd, Done, Stuck, Few, Bad, Many}
+use Rattle.slice_linear.specs.Rows.{HaveNoSolution, Refutes}
+use Rattle.slice_paths.specs.Goals.{Goal, goals}
 use Rattle.slice_step.specs.Exact.{Precedes}
 use Rattle.slice_step.specs.ValuationFile.{IsValuationFile, IsReplayFile}
 use Rattle.slice_run.specs.Outcomes.{Divides}
@@ -21,12 +24,9 @@ use Rattle.slice_report.specs.EnvyLaws.{TellsEnvy}
 use Rattle.slice_top.specs.Answers.{Answer, IsAnswer}
 use Rattle.slice_top.specs.Commands.{Command}
 use Rattle.slice_top.specs.Cores.{IsCoreOf}
+use Rattle.slice_top.specs.Headline.{EveryRunIsFair, run_on}
 
 -- ---- runs of the program
-
--- the run of a program on these valuations, with these answers to its cuts
-abbrev pub run_on : List Valuation → PlainProgram → List CutAnswer → ProgramEnd
-run_on vs p ys = run_program (worth_of vs) p (length_of vs) ys
 
 -- a run that ends so is told so: its queries, its shares and what is left; or its queries, and where and how it is stuck
 abbrev pub TellsEnd : ProgramEnd → Told → Type 0
@@ -87,6 +87,16 @@ abbrev pub ReplayRefusesTheRun : Type 0
 ReplayRefusesTheRun =
     (text bytes : List ℕ) (p : PlainProgram) (core : Core) (vs : List Valuation) (ys : List CutAnswer) (f : RunFault) → IsProgramOf text p → IsCoreOf p core → IsReplayFile bytes core.agents vs ys
     → outcome vs core (Given ys) ≡ Refused f → IsRefusedSo f (run_on vs p ys)
+
+-- where no goal of its core has rows with a solution, every run of the program in the text is fair
+abbrev pub UnsolvedGoalsMeanFairRuns : Type 0
+UnsolvedGoalsMeanFairRuns =
+    (text : List ℕ) (p : PlainProgram) (core : Core) → IsProgramOf text p → IsCoreOf p core → All (λ (g : Goal). HaveNoSolution g.rows) (goals core) → EveryRunIsFair p
+
+-- and where each goal's rows are refuted by some multipliers
+abbrev pub RefutedGoalsMeanFairRuns : Type 0
+RefutedGoalsMeanFairRuns =
+    (text : List ℕ) (p : PlainProgram) (core : Core) → IsProgramOf text p → IsCoreOf p core → All (λ (g : Goal). (m : List ℤ) × Refutes g.rows m) (goals core) → EveryRunIsFair p
 
 -- files and a command have one answer
 abbrev pub AnswersAreUnique : Type 0

@@ -2,6 +2,8 @@ pub mod Answers
 pub mod Commands
 pub mod Cores
 pub mod FilesRead
+pub mod Goals
+pub mod Headline
 pub mod Laws
 pub mod Programs
 pub mod Reports

@@ -1,5 +1,5 @@
 -- What is out when the program ends, and with what status.
-use Rattle.std.specs.Prelude.{◌≡◌, ℕ, List, take, codes, Option}
+use Rattle.std.specs.Prelude.{◌≡◌, ℕ, List, [], ◌∷◌, ◌++◌, take, codes, Option}
 use Rattle.slice_io.specs.Files.{Files}
 use Rattle.slice_io.specs.Told.{appended}
 use Rattle.slice_report.specs.declared.refusal.Refusal.TheVariants.{ReadFault}
@@ -12,11 +12,22 @@ use Rattle.slice_top.specs.declared.status.Status.TheVariants as status
 abbrev pub memory_line : List ℕ
 memory_line = codes "{\"refused\":\"memory\"}\n"
 
--- all bytes of a report: the answer's text; or that a file whose turn came couldn't be read; or that memory was wanted
+-- the bytes are whole lines, or none
+pub data AreLines (bytes : List ℕ) : Type 0 where
+  none : bytes ≡ [] → AreLines bytes
+  ended : (before : List ℕ) → bytes ≡ before ++ 10 ∷ [] → AreLines bytes
+
+-- what is out of an answer of this kind while it is made: nothing, or its first lines
+pub data IsOut (Kind : Answer → Type 0) (bytes : List ℕ) : Type 0 where
+  nothing : bytes ≡ [] → IsOut Kind bytes
+  first_lines : (a : Answer) → Kind a → AreLines bytes → (rest : List ℕ) → a.text ≡ bytes ++ rest → IsOut Kind bytes
+
+-- all bytes of a report: the answer's text; or that a file whose turn came couldn't be read; or the first lines of an answer,
+-- and that memory was wanted
 pub data Whole (told : Option Files) (c : Option Command) (bytes : List ℕ) (s : Status) : Type 0 where
   answered : (a : Answer) → IsAnswer told c a → s ≡ a.status → bytes ≡ a.text → Whole told c bytes s
   unread : (file : List ℕ) → ReadsFor told c file → s ≡ status.ReadFault → bytes ≡ (refused (ReadFault file)).text → Whole told c bytes s
-  starved : s ≡ status.Memory → bytes ≡ memory_line → Whole told c bytes s
+  starved : (out : List ℕ) → IsOut (IsAnswer told c) out → s ≡ status.Memory → bytes ≡ out ++ memory_line → Whole told c bytes s
 
 -- the report is out whole, or was cut off where a write failed
 pub data Report (told : Option Files) (c : Option Command) (bytes : List ℕ) (s : Status) : Type 0 where

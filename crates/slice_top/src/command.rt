@@ -11,6 +11,8 @@ pub enum Command<'a> {
     Check { protocol: &'a str },
     /// `print F`: the protocol in the file F is written as its canonical text.
     Print { protocol: &'a str },
+    /// `paths F`: what has to be refuted of the protocol in the file F is written, goal by goal.
+    Paths { protocol: &'a str },
     /// `run F V`: the protocol in the file F is run on the valuations in the file V.
     Run { protocol: &'a str, values: &'a str },
     /// `replay F V`: the same with the answers to its cuts that stand in the file V too.
@@ -42,6 +44,9 @@ fn of_one_file<'a>(word: &str, protocol: &'a str) -> Option<Command<'a>>
     }
     if word == "print" {
         return Some(Command::Print { protocol });
+    }
+    if word == "paths" {
+        return Some(Command::Paths { protocol });
     }
     None
 }

@@ -1,15 +1,14 @@
 // From the words to the status, with what is written on the way.
-ghost use Rattle.std.specs.Prelude.{◌≡◌, ◌≢◌, ◌⊎◌, ℕ, ◌<◌, ◌≤◌, List, length, map, None, IfSome, OnErr, OnOk};
+ghost use Rattle.std.specs.Prelude.{◌≡◌, ◌≢◌, ◌⊎◌, ℕ, ◌<◌, ◌≤◌, List, length, map, None, OnErr, OnOk};
 ghost use Rattle.std.specs.String.{string_bytes};
 ghost use Rattle.slice_io.specs.Causes.{HasCause, Rose};
 ghost use Rattle.slice_io.specs.Told.{appended, FrontIsOut};
-ghost use Rattle.slice_json.specs.Texts.{line_of};
-ghost use Rattle.slice_report.specs.Refusals.{HasTexts, refused_json};
+ghost use Rattle.slice_report.specs.Refusals.{HasTexts};
 ghost use Rattle.slice_top.specs.Commands.{command_of};
 ghost use Rattle.slice_top.specs.Turns.{ReadsFor};
 ghost use Rattle.slice_top.specs.Reports.{Reports, memory_line};
-ghost use Rattle.slice_top.specs.Statuses.{IsUsageOrFree, refused_status};
-ghost use Rattle.slice_top.specs.Settled.{Settled};
+ghost use Rattle.slice_top.specs.Statuses.{IsUsageOrFree};
+ghost use Rattle.slice_top.specs.Settled.{IsRefused, Settled};
 
 use crate::command::command_of;
 use crate::status::Status;
@@ -22,34 +21,47 @@ use std::alloc::Global;
 // Told where memory is wanted; it takes none.
 const MEMORY_LINE: &[u8] = b"{\"refused\":\"memory\"}\n";
 
-// What the words' command writes, or the line of its refusal, or want of memory.
-fn settle<S: Shelf>(alloc: Global, shelf: &mut S, words: &Vec<String>) -> Option<Output>
+/// How the work on a command ends: with what is still to be written, for want of memory, or since a write failed.
+#[derive(Debug, Drop)]
+pub(crate) enum Ending {
+    Last(Output),
+    Starved,
+    Unwritten,
+}
+
+// How the work on the words' command ends, or the line of its refusal.
+fn settle<S: Shelf, K: Sink>(
+    alloc: Global,
+    shelf: &mut S,
+    sink: &mut K,
+    words: &Vec<String>,
+) -> Ending
     requires asked { (n : List ℕ) → ReadsFor (S.told shelf.old) (command_of (map string_bytes words.now.items)) n → S.CanAsk shelf.old n }
     ensures same { S.told shelf.new ≡ S.told shelf.old }
-    ensures later { S.faults shelf.old ≤ S.faults shelf.new }
-    ensures settled { IfSome result (Settled (S.told shelf.old) (command_of (map string_bytes words.now.items)) (S.faults shelf.old) (S.faults shelf.new)) }
+    ensures later { (S.faults shelf.old ≤ S.faults shelf.new) × (K.faults sink.old ≤ K.faults sink.new) }
+    ensures settled { Settled (S.told shelf.old) (command_of (map string_bytes words.now.items)) (Rose (S.faults shelf.old) (S.faults shelf.new)) (Rose (K.faults sink.old) (K.faults sink.new)) (K.told sink.old) (K.told sink.new) result }
 {
     let Some(command) = command_of(words) else {
         return refused(alloc, &Refusal::Usage);
     };
-    match work(alloc, shelf, command) {
-        Ok(line) => Some(line),
+    match work(alloc, shelf, sink, command) {
+        Ok(last) => Ending::Last(last),
         Err(Stop::Refused(refusal)) => refused(alloc, &refusal),
         Err(Stop::Unread { file }) => refused(alloc, &Refusal::ReadFault { file }),
-        Err(Stop::Memory) => None,
+        Err(Stop::Memory) => Ending::Starved,
+        Err(Stop::Unwritten) => Ending::Unwritten,
     }
 }
 
 // The line of a refusal, and its status.
-fn refused(alloc: Global, refusal: &Refusal) -> Option<Output>
+fn refused(alloc: Global, refusal: &Refusal) -> Ending
     requires { HasTexts refusal.now }
-    ensures bytes { IfSome result (λ l. l.bytes.items ≡ line_of (refused_json refusal.now)) }
-    ensures status { IfSome result (λ l. l.status ≡ refused_status refusal.now) }
+    ensures { IsRefused refusal.now result }
 {
     let Ok(bytes) = refusal_line(alloc, refusal) else {
-        return None;
+        return Ending::Starved;
     };
-    Some(Output {
+    Ending::Last(Output {
         bytes,
         status: Status::of_refusal(refusal),
     })
@@ -133,9 +145,10 @@ pub fn top<S: Shelf, K: Sink>(
     // tells none.
     ensures report { Reports (S.told shelf.old) (command_of (map string_bytes words.now.items)) (K.told sink.old) (K.told sink.new) result }
 {
-    match settle(alloc, shelf, words) {
-        Some(line) => finish(sink, &line.bytes, line.status),
-        None => finish(sink, MEMORY_LINE, Status::Memory),
+    match settle(alloc, shelf, sink, words) {
+        Ending::Last(last) => finish(sink, &last.bytes, last.status),
+        Ending::Starved => finish(sink, MEMORY_LINE, Status::Memory),
+        Ending::Unwritten => Status::WriteFault,
     }
 }
 

@@ -1,6 +1,6 @@
 //! Laws of the definitions that [`top`](crate::top)'s contract rests on. No function does anything: its clauses are the
 //! laws.
-ghost use Rattle.slice_top.specs.Laws.{AnswersAreUnique, AnswersExist, ReplayRefusesTheRun, ReplayTellsTheRun, RunStopsAtNumbers, RunTellsTheLeastRun};
+ghost use Rattle.slice_top.specs.Laws.{AnswersAreUnique, AnswersExist, RefutedGoalsMeanFairRuns, ReplayRefusesTheRun, ReplayTellsTheRun, RunStopsAtNumbers, RunTellsTheLeastRun, UnsolvedGoalsMeanFairRuns};
 
 use slice_parse::parsings_are_unique;
 
@@ -17,6 +17,14 @@ pub fn run_tells_the_least_run()
 pub fn replay_tells_the_run()
     ensures told { ReplayTellsTheRun }
     ensures refused { ReplayRefusesTheRun }
+{}
+
+/// Where no goal that `paths` tells has rows with a solution, or the rows of each are refuted by some multipliers, every run of
+/// the program in the file is fair: on every list of valuations of any size, however its cuts are answered, no run is stuck,
+/// and one that is done gives disjoint shares and leaves nobody envious; and some run is done.
+pub fn refuted_goals_mean_fair_runs()
+    ensures unsolved { UnsolvedGoalsMeanFairRuns }
+    ensures refuted { RefutedGoalsMeanFairRuns }
 {}
 
 /// Files and a command have one answer: [`top`](crate::top)'s report leaves no choice but that of the devices and of

@@ -8,6 +8,7 @@ pub mod command;
 mod cores;
 mod ending;
 mod files;
+mod goals;
 mod laws;
 mod programs;
 mod runs;
@@ -17,7 +18,10 @@ mod values;
 mod work;
 
 pub use ending::{end_for_memory, top};
-pub use laws::{answers_are_unique, answers_exist, replay_tells_the_run, run_tells_the_least_run};
+pub use laws::{
+    answers_are_unique, answers_exist, refuted_goals_mean_fair_runs, replay_tells_the_run,
+    run_tells_the_least_run,
+};
 pub use status::Status;
 
 #[cfg(test)]

@@ -15,6 +15,8 @@ pub(crate) enum Stop {
     Unread { file: Word },
     /// Want of memory.
     Memory,
+    /// A line couldn't be written: the sink's count of faults rose.
+    Unwritten,
 }
 
 /// The name of a file, to be told.

@@ -8,10 +8,11 @@ mod rows;
 
 use crate::{Status, top};
 use expanded::EXPANDED;
-use files::{PROTOCOLS, VALUES};
-use slice_io::{MemoryShelf, MemorySink, NamedFile};
+use files::{JP, LD, PROTOCOLS, VALUES};
+use slice_io::{GrowingSink, MemoryShelf, MemorySink, NamedFile};
 use std::alloc::{AllocError, Global};
 use std::process::Abort;
+use std::str;
 use std::test::Fail;
 
 const HALF: &str =
@@ -83,6 +84,11 @@ fn programs_run_by_given_answers(rt: HostRuntime) -> Result<(), Fail> {
 #[test]
 fn runs_are_refused(rt: HostRuntime) -> Result<(), Fail> {
     each(&rt, rt.alloc(), rows::REFUSED)
+}
+
+#[test]
+fn goals_are_told_with_their_rows(rt: HostRuntime) -> Result<(), Fail> {
+    each(&rt, rt.alloc(), rows::GOALS)
 }
 
 // The status and what a command writes about this text, on a cake that is worth the same everywhere to one agent.
@@ -281,6 +287,48 @@ fn the_first_limit_is_told(rt: HostRuntime) -> Result<(), Fail> {
     assert!(rt; answers(alloc, more.as_str(), NODES, Status::Limit)?);
     // 131,071 calls.
     assert!(rt; answers(alloc, doubling(alloc, 17)?.as_str(), CALLS, Status::Limit)?);
+    Ok(())
+}
+
+// All that `paths` writes of this text.
+fn goals_of(alloc: Global, text: &str) -> Result<Vec<u8>, Fail> {
+    let words = words_of(alloc, &["paths", "f.slice"])?;
+    let files = files_of(alloc, &[&[("f.slice", text)]])?;
+    let mut shelf = MemoryShelf::new(files, 1_048_576, Vec::new(alloc));
+    let mut sink = GrowingSink::new(alloc);
+    let _status = top(alloc, &words, &mut shelf, &mut sink);
+    Ok(sink.into_bytes())
+}
+
+// The last line of each. With one agent there is no envy, and each cut has two goals.
+#[test]
+fn goals_are_counted(rt: HostRuntime) -> Result<(), Fail> {
+    let alloc = rt.alloc();
+    let lets = body(alloc, lets(alloc, 511)?.as_str())?;
+    let cuts = body(alloc, cuts(alloc, 64)?.as_str())?;
+    for (text, last) in [
+        (lets.as_str(), "{\"goals\":0}\n"),
+        (cuts.as_str(), "\n{\"goals\":128}\n"),
+        (JP, "\n{\"goals\":4}\n"),
+    ] {
+        let out = goals_of(alloc, text)?;
+        assert!(rt; out.as_slice().ends_with(last.as_bytes()), "{last}");
+    }
+    Ok(())
+}
+
+// The last cut in the first arm has three parts; after an answer in its third, agent 3 may envy agent 1.
+#[test]
+fn each_part_of_a_piece_is_followed(rt: HostRuntime) -> Result<(), Fail> {
+    let alloc = rt.alloc();
+    let out = goals_of(alloc, LD)?;
+    let start = "{\"goal\":36,\"outcome\":{\"agent\":3,\"envies\":1},\"rows\":[";
+    let end = ",\"trace\":[\"go\",\"yes\",\"go\",\"yes\",\"go\",\"no\",\"no\",\"go\",\"yes\"]}";
+    let mut found = false;
+    for line in str::from_utf8(&out)?.lines() {
+        found = found || line.starts_with(start) && line.ends_with(end);
+    }
+    assert!(rt; found);
     Ok(())
 }
 

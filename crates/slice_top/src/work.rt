@@ -5,6 +5,7 @@ ghost use Rattle.slice_core.specs.Cores.{core_of};
 ghost use Rattle.slice_io.specs.Causes.{Rose};
 ghost use Rattle.slice_top.specs.Answers.{IsAnswer, TellsGivenRun, TellsLeastRun, IsReplayAnswer, IsRunAnswer, answer_of, refused};
 ghost use Rattle.slice_top.specs.Commands as words;
+ghost use Rattle.slice_top.specs.Settled.{Ends, StopsIn};
 ghost use Rattle.slice_top.specs.Statuses.{IsWorked};
 ghost use Rattle.slice_top.specs.Stops.{StopsBy, StopsFor, command_view};
 ghost use Rattle.slice_top.specs.Turns.{HoldsProgram, IsSecondTurn, ReadsFor, RefusesSpelling};
@@ -12,6 +13,7 @@ ghost use Rattle.slice_top.specs.Turns.{HoldsProgram, IsSecondTurn, ReadsFor, Re
 use crate::command::Command;
 use crate::cores::read_core;
 use crate::files::read_file;
+use crate::goals::put_goals;
 use crate::programs::read_program;
 use crate::runs::{tell_given, tell_least};
 use crate::status::Status;
@@ -19,33 +21,35 @@ use crate::stop::Stop;
 use crate::values::{read_answers, read_values};
 use slice_ast::{Program, print as canonical_text};
 use slice_core::Core;
-use slice_io::Shelf;
+use slice_io::{Shelf, Sink};
 use slice_report::check_line;
 use std::alloc::Global;
 
-/// What is written, each line with its LF, and the status that the program ends with.
+/// What is still to be written, each line with its LF, and the status that the program ends with.
 #[derive(Debug, Drop)]
 pub(crate) struct Output {
     pub(crate) bytes: Vec<u8>,
     pub(crate) status: Status,
 }
 
-/// What the command writes.
-pub(crate) fn work<S: Shelf>(
+/// Works on the command: writes the lines of its answer as they are made, but for the last output, which it gives.
+pub(crate) fn work<S: Shelf, K: Sink>(
     alloc: Global,
     shelf: &mut S,
+    sink: &mut K,
     command: Command<'_>,
 ) -> Result<Output, Stop>
     requires asked { (n : List ℕ) → ReadsFor (S.told shelf.old) (Some (command_view command)) n → S.CanAsk shelf.old n }
     ensures same { S.told shelf.new ≡ S.told shelf.old }
-    ensures later { S.faults shelf.old ≤ S.faults shelf.new }
+    ensures later { (S.faults shelf.old ≤ S.faults shelf.new) × (K.faults sink.old ≤ K.faults sink.new) }
     ensures worked { IfOk result (λ l. IsWorked l.status) }
-    ensures ok { IfOk result (λ l. IsAnswer (S.told shelf.old) (Some (command_view command.entry)) (answer_of l.bytes.items l.status)) }
-    ensures err { IfErr result (StopsBy (λ r. IsAnswer (S.told shelf.old) (Some (command_view command.entry)) (refused r)) (ReadsFor (S.told shelf.old) (Some (command_view command.entry))) (Rose (S.faults shelf.old) (S.faults shelf.new))) }
+    ensures ok { IfOk result (λ l. Ends (IsAnswer (S.told shelf.old) (Some (command_view command.entry))) (K.told sink.old) (K.told sink.new) l.bytes.items l.status) }
+    ensures err { IfErr result (StopsIn (IsAnswer (S.told shelf.old) (Some (command_view command.entry))) (ReadsFor (S.told shelf.old) (Some (command_view command.entry))) (Rose (S.faults shelf.old) (S.faults shelf.new)) (Rose (K.faults sink.old) (K.faults sink.new)) (K.told sink.old) (K.told sink.new)) }
 {
     match command {
         Command::Check { protocol } => check(alloc, shelf, protocol),
         Command::Print { protocol } => print(alloc, shelf, protocol),
+        Command::Paths { protocol } => paths(alloc, shelf, sink, protocol),
         Command::Run { protocol, values } => run(alloc, shelf, protocol, values),
         Command::Replay { protocol, values } => replay(alloc, shelf, protocol, values),
     }
@@ -93,6 +97,27 @@ fn print<S: Shelf>(alloc: Global, shelf: &mut S, protocol: &str) -> Result<Outpu
         bytes,
         status: Status::Good,
     })
+}
+
+// The lines of `paths`.
+fn paths<S: Shelf, K: Sink>(
+    alloc: Global,
+    shelf: &mut S,
+    sink: &mut K,
+    protocol: &str,
+) -> Result<Output, Stop>
+    requires asked { S.CanAsk shelf.old protocol.now }
+    ensures same { S.told shelf.new ≡ S.told shelf.old }
+    ensures later { (S.faults shelf.old ≤ S.faults shelf.new) × (K.faults sink.old ≤ K.faults sink.new) }
+    ensures worked { IfOk result (λ l. IsWorked l.status) }
+    ensures ok { IfOk result (λ l. Ends (IsAnswer (S.told shelf.old) (Some (words.paths protocol.now))) (K.told sink.old) (K.told sink.new) l.bytes.items l.status) }
+    ensures err { IfErr result (StopsIn (IsAnswer (S.told shelf.old) (Some (words.paths protocol.now))) (ReadsFor (S.told shelf.old) (Some (words.paths protocol.now))) (Rose (S.faults shelf.old) (S.faults shelf.new)) (Rose (K.faults sink.old) (K.faults sink.new)) (K.told sink.old) (K.told sink.new)) }
+{
+    let core = match read_core(alloc, shelf, protocol) {
+        Ok(core) => core,
+        Err(stop) => return Err(stop),
+    };
+    put_goals(alloc, sink, &core)
 }
 
 // The program in a file.

@@ -9,6 +9,14 @@ pub(super) const CC: &str =
 pub(super) const SC: &str =
     "procedure trimmings(agent holder, agent cutter, piece t) {\n  let third = 1/3 * value(cutter, t);\n  cut cutter t at third as a, u;\n  cut cutter u at third as b, c;\n  pick holder from a, b, c as h, x, y;\n  pick 1 from x, y as m, z;\n  give h to holder;\n  give m to 1;\n  give z to cutter;\n}\nprotocol selfridge_conway agents 3 {\n  cut 1 cake at 1/3 as p, u;\n  cut 1 u at 1/3 as q, r;\n  pick 2 from p, q, r as best, s, t;\n  pick 2 from s, t as second, third;\n  cut 2 best at value(2, second) as trimmed, trim;\n  pick 3 from second, third as top, low;\n  if value(3, trimmed) >= value(3, top) {\n    give trimmed to 3;\n    pick 2 from top, low as mine, last;\n    give mine to 2;\n    give last to 1;\n    call trimmings(agent 3, agent 2, piece trim);\n  } else {\n    give top to 3;\n    give trimmed to 2;\n    give low to 1;\n    call trimmings(agent 2, agent 3, piece trim);\n  }\n}\n";
 
+// The last diminisher's procedure for three agents.
+pub(super) const LD: &str =
+    "procedure share(agent cutter, agent chooser, piece w) {\n  cut cutter w at 1/2 * value(cutter, w) as i, j;\n  pick chooser from i, j as k, l;\n  give k to chooser;\n  give l to cutter;\n}\nprotocol last_diminisher agents 3 {\n  cut 1 cake at 1/3 as a, b;\n  if value(2, a) > 1/3 {\n    cut 2 a at 1/3 as c, d;\n    join d, b as e;\n    if value(3, c) > 1/3 {\n      cut 3 c at 1/3 as f, g;\n      join g, e as h;\n      give f to 3;\n      call share(agent 1, agent 2, piece h);\n    } else {\n      give c to 2;\n      call share(agent 1, agent 3, piece e);\n    }\n  } else {\n    if value(3, a) > 1/3 {\n      cut 3 a at 1/3 as c, d;\n      join d, b as e;\n      give c to 3;\n      call share(agent 1, agent 2, piece e);\n    } else {\n      give a to 1;\n      call share(agent 2, agent 3, piece b);\n    }\n  }\n}\n";
+
+// A joined piece is cut.
+pub(super) const JP: &str =
+    "protocol p agents 1 { cut 1 cake at 1/2 as l, r; join l, r as j; cut 1 j at 1/2 as x, y; }";
+
 pub(super) const PROTOCOLS: &[Text] = &[
     ("half.slice", super::HALF),
     (
@@ -50,14 +58,8 @@ pub(super) const PROTOCOLS: &[Text] = &[
         "protocol cc agents 2 {\n  cut 1 cake at 1/3 as l, r;\n  if value(2, l) >= value(2, r) {\n    give l to 2;\n    give r to 1;\n  } else {\n    give r to 2;\n    give l to 1;\n  }\n}\n",
     ),
     ("sc.slice", SC),
-    (
-        "ld.slice",
-        "procedure share(agent cutter, agent chooser, piece w) {\n  cut cutter w at 1/2 * value(cutter, w) as i, j;\n  pick chooser from i, j as k, l;\n  give k to chooser;\n  give l to cutter;\n}\nprotocol last_diminisher agents 3 {\n  cut 1 cake at 1/3 as a, b;\n  if value(2, a) > 1/3 {\n    cut 2 a at 1/3 as c, d;\n    join d, b as e;\n    if value(3, c) > 1/3 {\n      cut 3 c at 1/3 as f, g;\n      join g, e as h;\n      give f to 3;\n      call share(agent 1, agent 2, piece h);\n    } else {\n      give c to 2;\n      call share(agent 1, agent 3, piece e);\n    }\n  } else {\n    if value(3, a) > 1/3 {\n      cut 3 a at 1/3 as c, d;\n      join d, b as e;\n      give c to 3;\n      call share(agent 1, agent 2, piece e);\n    } else {\n      give a to 1;\n      call share(agent 2, agent 3, piece b);\n    }\n  }\n}\n",
-    ),
-    (
-        "jp.slice",
-        "protocol p agents 1 { cut 1 cake at 1/2 as l, r; join l, r as j; cut 1 j at 1/2 as x, y; }",
-    ),
+    ("ld.slice", LD),
+    ("jp.slice", JP),
     (
         "deep.slice",
         "protocol deep agents 1 { cut 1 cake at 1/999999999999999999 * value(1, cake) as a, b; cut 1 a at 1/999999999999999999 * value(1, a) as c, d; cut 1 c at 1/999999999999999999 * value(1, c) as e, f; }",

@@ -519,3 +519,48 @@ pub(super) const REFUSED: &[Row] = &[
         Status::Usage,
     ),
 ];
+
+// The goals of cut and choose: stuck low and high at its cut, and each agent's envy in each arm.
+const CC_GOALS: &str =
+    "{\"goal\":0,\"outcome\":{\"query\":0,\"side\":\"low\"},\"rows\":[{\"coefs\":[\"1\",\"0\",\"0\"],\"kind\":\"above\"},{\"coefs\":[\"-1\",\"1\",\"0\"],\"kind\":\"zero\"},{\"coefs\":[\"-1\",\"0\",\"1\"],\"kind\":\"zero\"},{\"coefs\":[\"-1\",\"0\",\"0\"],\"kind\":\"above\"}],\"trace\":[\"low\"]}\n{\"goal\":1,\"outcome\":{\"query\":0,\"side\":\"high\"},\"rows\":[{\"coefs\":[\"1\",\"0\",\"0\"],\"kind\":\"above\"},{\"coefs\":[\"-1\",\"1\",\"0\"],\"kind\":\"zero\"},{\"coefs\":[\"-1\",\"0\",\"1\"],\"kind\":\"zero\"},{\"coefs\":[\"1\",\"-2\",\"0\"],\"kind\":\"above\"}],\"trace\":[\"high\"]}\n{\"goal\":2,\"outcome\":{\"agent\":1,\"envies\":2},\"rows\":[{\"coefs\":[\"1\",\"0\",\"0\",\"0\",\"0\"],\"kind\":\"above\"},{\"coefs\":[\"-1\",\"1\",\"1\",\"0\",\"0\"],\"kind\":\"zero\"},{\"coefs\":[\"-1\",\"0\",\"0\",\"1\",\"1\"],\"kind\":\"zero\"},{\"coefs\":[\"-1\",\"2\",\"0\",\"0\",\"0\"],\"kind\":\"zero\"},{\"coefs\":[\"0\",\"0\",\"0\",\"1\",\"-1\"],\"kind\":\"atleast\"},{\"coefs\":[\"0\",\"1\",\"-1\",\"0\",\"0\"],\"kind\":\"above\"}],\"trace\":[\"go\",\"yes\"]}\n{\"goal\":3,\"outcome\":{\"agent\":2,\"envies\":1},\"rows\":[{\"coefs\":[\"1\",\"0\",\"0\",\"0\",\"0\"],\"kind\":\"above\"},{\"coefs\":[\"-1\",\"1\",\"1\",\"0\",\"0\"],\"kind\":\"zero\"},{\"coefs\":[\"-1\",\"0\",\"0\",\"1\",\"1\"],\"kind\":\"zero\"},{\"coefs\":[\"-1\",\"2\",\"0\",\"0\",\"0\"],\"kind\":\"zero\"},{\"coefs\":[\"0\",\"0\",\"0\",\"1\",\"-1\"],\"kind\":\"atleast\"},{\"coefs\":[\"0\",\"0\",\"0\",\"-1\",\"1\"],\"kind\":\"above\"}],\"trace\":[\"go\",\"yes\"]}\n{\"goal\":4,\"outcome\":{\"agent\":1,\"envies\":2},\"rows\":[{\"coefs\":[\"1\",\"0\",\"0\",\"0\",\"0\"],\"kind\":\"above\"},{\"coefs\":[\"-1\",\"1\",\"1\",\"0\",\"0\"],\"kind\":\"zero\"},{\"coefs\":[\"-1\",\"0\",\"0\",\"1\",\"1\"],\"kind\":\"zero\"},{\"coefs\":[\"-1\",\"2\",\"0\",\"0\",\"0\"],\"kind\":\"zero\"},{\"coefs\":[\"0\",\"0\",\"0\",\"-1\",\"1\"],\"kind\":\"above\"},{\"coefs\":[\"0\",\"-1\",\"1\",\"0\",\"0\"],\"kind\":\"above\"}],\"trace\":[\"go\",\"no\"]}\n{\"goal\":5,\"outcome\":{\"agent\":2,\"envies\":1},\"rows\":[{\"coefs\":[\"1\",\"0\",\"0\",\"0\",\"0\"],\"kind\":\"above\"},{\"coefs\":[\"-1\",\"1\",\"1\",\"0\",\"0\"],\"kind\":\"zero\"},{\"coefs\":[\"-1\",\"0\",\"0\",\"1\",\"1\"],\"kind\":\"zero\"},{\"coefs\":[\"-1\",\"2\",\"0\",\"0\",\"0\"],\"kind\":\"zero\"},{\"coefs\":[\"0\",\"0\",\"0\",\"-1\",\"1\"],\"kind\":\"above\"},{\"coefs\":[\"0\",\"0\",\"0\",\"1\",\"-1\"],\"kind\":\"above\"}],\"trace\":[\"go\",\"no\"]}\n{\"goals\":6}\n";
+
+// Goals, and what stops them.
+pub(super) const GOALS: &[Row] = &[
+    (&["paths", "cc.slice"], &[], &[], CC_GOALS, Status::Good),
+    (
+        &["paths", "over.slice"],
+        &[],
+        &[],
+        "{\"goal\":0,\"refused\":\"Overflow\"}\n",
+        Status::Limit,
+    ),
+    (
+        &["paths", "cc.slice"],
+        &[],
+        &[1],
+        "{\"goal\":0,\"outcome\":{\"query\":0,\"side\":\"low\"},\"rows\":[{\"coefs\":[\"1\",\"0\",\"0\"],\"kind\":\"above\"},{\"coefs\":[\"-1\",\"1\",\"0\"],\"kind\":\"zero\"},{\"coefs\":[\"-1\",\"0\",\"1\"],\"kind\":\"zero\"},{\"coefs\":[\"-1\",\"0\",\"0\"],\"kind\":\"above\"}],\"trace\":[\"low\"]}\n",
+        Status::WriteFault,
+    ),
+    (&["paths", "cc.slice"], &[], &[0], "", Status::WriteFault),
+    (
+        &["paths", "twice.slice"],
+        &[],
+        &[],
+        "{\"at\":43,\"first\":27,\"name\":\"cake\",\"refused\":\"UsedTwice\"}\n",
+        Status::Refused,
+    ),
+    (
+        &["paths", "cc.slice"],
+        &[0],
+        &[],
+        "{\"file\":\"cc.slice\",\"refused\":\"ReadFault\"}\n",
+        Status::ReadFault,
+    ),
+    (
+        &["paths", "cc.slice", "v.json"],
+        &[],
+        &[],
+        "{\"refused\":\"Usage\"}\n",
+        Status::Usage,
+    ),
+];

@@ -1,48 +1,94 @@
 use Rattle.std.proofs.Common.{◌≡◌, ap, subst, sym, Some}
 use Rattle.slice_io.specs.Causes.{Rose}
 use Rattle.slice_top.specs.Commands as words
+use Rattle.slice_top.specs.Answers.{IsAnswer}
+use Rattle.slice_top.specs.Settled.{Ends, StopsIn}
+use Rattle.slice_top.specs.Stops.{command_view}
 use Rattle.slice_top.specs.Turns.{ReadsFor}
-use Rattle.slice_top.specs.Answers.{IsAnswer, answer_of, refused}
-use Rattle.slice_top.specs.Stops.{StopsBy, command_view}
+use Rattle.slice_top.proofs.Endings.{ends_at_once, stops_at_once}
 use Rattle.slice_top.proofs.Stages.{if_ok_so, if_err_so}
 use Rattle.slice_top.proofs.work.work.Goals as goal
 
 pub returns-in-Check-clause-ok : goal.returns-in-Check-clause-ok
 returns-in-Check-clause-ok g c =
-    if_ok_so _ _ (λ l h. subst (λ (k : words.Command). IsAnswer (g.S.Shelf.told c.args.shelf.now) (Some k) (answer_of l.bytes.items l.status)) (sym (ap command_view c.in-Check.is)) h) c.check.result c.check.ensures.ok
+    let told = g.S.Shelf.told c.args.shelf.now in
+    let out = g.K.Sink.told c.args.sink.now in
+    if_ok_so _ _ (λ l h. subst (λ (k : words.Command). Ends (IsAnswer told (Some k)) out out l.bytes.items l.status) (sym (ap command_view c.in-Check.is))
+    (ends_at_once (IsAnswer told (Some (words.check c.in-Check.protocol.now))) out l.bytes.items l.status h)) c.check.result c.check.ensures.ok
 
 pub returns-in-Check-clause-err : goal.returns-in-Check-clause-err
 returns-in-Check-clause-err g c =
     let told = g.S.Shelf.told c.args.shelf.now in
-    let rose = Rose (g.S.Shelf.faults c.args.shelf.now) (g.S.Shelf.faults c.check.new.shelf) in
-    if_err_so _ _ (λ s h. subst (λ (k : words.Command). StopsBy (λ r. IsAnswer told (Some k) (refused r)) (ReadsFor told (Some k)) rose s) (sym (ap command_view c.in-Check.is)) h) c.check.result c.check.ensures.err
+    let out = g.K.Sink.told c.args.sink.now in
+    let shelf = Rose (g.S.Shelf.faults c.args.shelf.now) (g.S.Shelf.faults c.check.new.shelf) in
+    let sink = Rose (g.K.Sink.faults c.args.sink.now) (g.K.Sink.faults c.args.sink.now) in
+    let k = Some (words.check c.in-Check.protocol.now) in
+    if_err_so _ _ (λ s h. subst (λ (k : words.Command). StopsIn (IsAnswer told (Some k)) (ReadsFor told (Some k)) shelf sink out out s) (sym (ap command_view c.in-Check.is))
+    (stops_at_once (IsAnswer told k) (ReadsFor told k) shelf sink out s h)) c.check.result c.check.ensures.err
 
 pub returns-in-Print-clause-ok : goal.returns-in-Print-clause-ok
 returns-in-Print-clause-ok g c =
-    if_ok_so _ _ (λ l h. subst (λ (k : words.Command). IsAnswer (g.S.Shelf.told c.args.shelf.now) (Some k) (answer_of l.bytes.items l.status)) (sym (ap command_view c.in-Print.is)) h) c.print.result c.print.ensures.ok
+    let told = g.S.Shelf.told c.args.shelf.now in
+    let out = g.K.Sink.told c.args.sink.now in
+    if_ok_so _ _ (λ l h. subst (λ (k : words.Command). Ends (IsAnswer told (Some k)) out out l.bytes.items l.status) (sym (ap command_view c.in-Print.is))
+    (ends_at_once (IsAnswer told (Some (words.print c.in-Print.protocol.now))) out l.bytes.items l.status h)) c.print.result c.print.ensures.ok
 
 pub returns-in-Print-clause-err : goal.returns-in-Print-clause-err
 returns-in-Print-clause-err g c =
     let told = g.S.Shelf.told c.args.shelf.now in
-    let rose = Rose (g.S.Shelf.faults c.args.shelf.now) (g.S.Shelf.faults c.print.new.shelf) in
-    if_err_so _ _ (λ s h. subst (λ (k : words.Command). StopsBy (λ r. IsAnswer told (Some k) (refused r)) (ReadsFor told (Some k)) rose s) (sym (ap command_view c.in-Print.is)) h) c.print.result c.print.ensures.err
+    let out = g.K.Sink.told c.args.sink.now in
+    let shelf = Rose (g.S.Shelf.faults c.args.shelf.now) (g.S.Shelf.faults c.print.new.shelf) in
+    let sink = Rose (g.K.Sink.faults c.args.sink.now) (g.K.Sink.faults c.args.sink.now) in
+    let k = Some (words.print c.in-Print.protocol.now) in
+    if_err_so _ _ (λ s h. subst (λ (k : words.Command). StopsIn (IsAnswer told (Some k)) (ReadsFor told (Some k)) shelf sink out out s) (sym (ap command_view c.in-Print.is))
+    (stops_at_once (IsAnswer told k) (ReadsFor told k) shelf sink out s h)) c.print.result c.print.ensures.err
 
 pub returns-in-Run-clause-ok : goal.returns-in-Run-clause-ok
 returns-in-Run-clause-ok g c =
-    if_ok_so _ _ (λ l h. subst (λ (k : words.Command). IsAnswer (g.S.Shelf.told c.args.shelf.now) (Some k) (answer_of l.bytes.items l.status)) (sym (ap command_view c.in-Run.is)) h) c.run.result c.run.ensures.ok
+    let told = g.S.Shelf.told c.args.shelf.now in
+    let out = g.K.Sink.told c.args.sink.now in
+    if_ok_so _ _ (λ l h. subst (λ (k : words.Command). Ends (IsAnswer told (Some k)) out out l.bytes.items l.status) (sym (ap command_view c.in-Run.is))
+    (ends_at_once (IsAnswer told (Some (words.run c.in-Run.protocol.now c.in-Run.values.now))) out l.bytes.items l.status h)) c.run.result c.run.ensures.ok
 
 pub returns-in-Run-clause-err : goal.returns-in-Run-clause-err
 returns-in-Run-clause-err g c =
     let told = g.S.Shelf.told c.args.shelf.now in
-    let rose = Rose (g.S.Shelf.faults c.args.shelf.now) (g.S.Shelf.faults c.run.new.shelf) in
-    if_err_so _ _ (λ s h. subst (λ (k : words.Command). StopsBy (λ r. IsAnswer told (Some k) (refused r)) (ReadsFor told (Some k)) rose s) (sym (ap command_view c.in-Run.is)) h) c.run.result c.run.ensures.err
+    let out = g.K.Sink.told c.args.sink.now in
+    let shelf = Rose (g.S.Shelf.faults c.args.shelf.now) (g.S.Shelf.faults c.run.new.shelf) in
+    let sink = Rose (g.K.Sink.faults c.args.sink.now) (g.K.Sink.faults c.args.sink.now) in
+    let k = Some (words.run c.in-Run.protocol.now c.in-Run.values.now) in
+    if_err_so _ _ (λ s h. subst (λ (k : words.Command). StopsIn (IsAnswer told (Some k)) (ReadsFor told (Some k)) shelf sink out out s) (sym (ap command_view c.in-Run.is))
+    (stops_at_once (IsAnswer told k) (ReadsFor told k) shelf sink out s h)) c.run.result c.run.ensures.err
 
 pub returns-in-Replay-clause-ok : goal.returns-in-Replay-clause-ok
 returns-in-Replay-clause-ok g c =
-    if_ok_so _ _ (λ l h. subst (λ (k : words.Command). IsAnswer (g.S.Shelf.told c.args.shelf.now) (Some k) (answer_of l.bytes.items l.status)) (sym (ap command_view c.in-Replay.is)) h) c.replay.result c.replay.ensures.ok
+    let told = g.S.Shelf.told c.args.shelf.now in
+    let out = g.K.Sink.told c.args.sink.now in
+    if_ok_so _ _ (λ l h. subst (λ (k : words.Command). Ends (IsAnswer told (Some k)) out out l.bytes.items l.status) (sym (ap command_view c.in-Replay.is))
+    (ends_at_once (IsAnswer told (Some (words.replay c.in-Replay.protocol.now c.in-Replay.values.now))) out l.bytes.items l.status h)) c.replay.result c.replay.ensures.ok
 
 pub returns-in-Replay-clause-err : goal.returns-in-Replay-clause-err
 returns-in-Replay-clause-err g c =
     let told = g.S.Shelf.told c.args.shelf.now in
-    let rose = Rose (g.S.Shelf.faults c.args.shelf.now) (g.S.Shelf.faults c.replay.new.shelf) in
-    if_err_so _ _ (λ s h. subst (λ (k : words.Command). StopsBy (λ r. IsAnswer told (Some k) (refused r)) (ReadsFor told (Some k)) rose s) (sym (ap command_view c.in-Replay.is)) h) c.replay.result c.replay.ensures.err
+    let out = g.K.Sink.told c.args.sink.now in
+    let shelf = Rose (g.S.Shelf.faults c.args.shelf.now) (g.S.Shelf.faults c.replay.new.shelf) in
+    let sink = Rose (g.K.Sink.faults c.args.sink.now) (g.K.Sink.faults c.args.sink.now) in
+    let k = Some (words.replay c.in-Replay.protocol.now c.in-Replay.values.now) in
+    if_err_so _ _ (λ s h. subst (λ (k : words.Command). StopsIn (IsAnswer told (Some k)) (ReadsFor told (Some k)) shelf sink out out s) (sym (ap command_view c.in-Replay.is))
+    (stops_at_once (IsAnswer told k) (ReadsFor told k) shelf sink out s h)) c.replay.result c.replay.ensures.err
+
+pub returns-in-Paths-clause-ok : goal.returns-in-Paths-clause-ok
+returns-in-Paths-clause-ok g c =
+    let told = g.S.Shelf.told c.args.shelf.now in
+    let before = g.K.Sink.told c.args.sink.now in
+    let after = g.K.Sink.told c.paths.new.sink in
+    if_ok_so _ _ (λ l h. subst (λ (k : words.Command). Ends (IsAnswer told (Some k)) before after l.bytes.items l.status) (sym (ap command_view c.in-Paths.is)) h) c.paths.result c.paths.ensures.ok
+
+pub returns-in-Paths-clause-err : goal.returns-in-Paths-clause-err
+returns-in-Paths-clause-err g c =
+    let told = g.S.Shelf.told c.args.shelf.now in
+    let before = g.K.Sink.told c.args.sink.now in
+    let after = g.K.Sink.told c.paths.new.sink in
+    let shelf = Rose (g.S.Shelf.faults c.args.shelf.now) (g.S.Shelf.faults c.paths.new.shelf) in
+    let sink = Rose (g.K.Sink.faults c.args.sink.now) (g.K.Sink.faults c.paths.new.sink) in
+    if_err_so _ _ (λ s h. subst (λ (k : words.Command). StopsIn (IsAnswer told (Some k)) (ReadsFor told (Some k)) shelf sink before after s) (sym (ap command_view c.in-Paths.is)) h) c.paths.result c.paths.ensures.err
