@@ -1,0 +1,5 @@
+pub mod Plain
+pub mod Values
+pub mod Wholes
+pub mod OneLine
+pub mod Written
