@@ -27,7 +27,7 @@ use Rattle.slice_top.specs.declared.status.Status.TheVariants as status
 
 -- ---- what was written
 
-appended_nothing : (told : Option (List ℕ)) → told ≡ appended told []
+pub appended_nothing : (told : Option (List ℕ)) → told ≡ appended told []
 appended_nothing None = refl
 appended_nothing (Some before) = ap Some (sym (append-nil before))
 

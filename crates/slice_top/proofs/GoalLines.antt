@@ -2,7 +2,7 @@
 use Rattle.std.proofs.Common.{◌≡◌, ◌<◌, ◌≤◌, ◌∙◌, ℕ, suc, ◌+◌, Bool, true, false, List, [], ◌∷◌, ◌++◌, length, take, Option, Some, None, Result, Ok, Err, ap, sym, subst, refl, arith, append_assoc}
 use Rattle.std.specs.Prelude.{nat_lt, if◌then◌else◌, IfOk, IfErr}
 use Rattle.std.proofs.Math.Seq.{take-append-add}
-use Rattle.std.proofs.lemmas.List.{length-append, append-nil, take-append-le}
+use Rattle.std.proofs.lemmas.List.{length-append, take-append-le}
 use Rattle.slice_io.specs.Told.{appended, appended-append, FrontIsOut}
 use Rattle.serde_json.specs.Written.{compact_text}
 use Rattle.slice_json.specs.Texts.{line_of}
@@ -14,6 +14,7 @@ use Rattle.slice_report.specs.GoalReport.{count_json, goal_json}
 use Rattle.slice_report.specs.Refusals.{refused_json}
 use Rattle.slice_report.specs.declared.refusal.Refusal.{Refusal}
 use Rattle.slice_report.specs.declared.refusal.Refusal.TheVariants.{GoalLimit, FormOverflow}
+use Rattle.slice_top.proofs.Endings.{appended_nothing}
 use Rattle.slice_top.specs.Answers.{Answer, answer_of, one_line, after_line, refused, goals_answer}
 use Rattle.slice_top.specs.Goals.{goal_refusal}
 use Rattle.slice_top.specs.Reports.{AreLines, none, ended, IsOut, first_lines}
@@ -74,11 +75,7 @@ pub record Continues (whole : Answer) (es : List Event) (given : ℕ) (out : Lis
 
 module _ (whole : Answer) (before : Option (List ℕ)) where
   pub begun : (es : List Event) → whole ≡ goals_answer es 0 → Wrote before before (Continues whole es 0)
-  begun es e = record { out = []; told = nothing_more before; is = record { are = none refl; text = ap (λ a. a.text) e; status = ap (λ a. a.status) e } }
-    where
-      nothing_more : (told : Option (List ℕ)) → told ≡ appended told []
-      nothing_more None = refl
-      nothing_more (Some xs) = ap Some (sym (append-nil xs))
+  begun es e = record { out = []; told = appended_nothing before; is = record { are = none refl; text = ap (λ a. a.text) e; status = ap (λ a. a.status) e } }
 
   -- a goal's line was written
   pub went_on : (mid after : Option (List ℕ)) (es rest : List Event) (given : ℕ) (g : _) → Wrote before mid (Continues whole es given) → next_goal es given ≡ Gives g rest

@@ -111,17 +111,20 @@ fn finish<K: Sink>(sink: &mut K, bytes: &[u8], status: Status) -> Status
 /// Does what the words ask for, those after the program's name: reads files from the shelf, writes
 /// the answer to the sink, and tells with what status the program ends.
 ///
-/// `check F` writes one line with the counts of the core of the protocol in the file F. `print F` writes its canonical text,
-/// line by line. `run F V` runs it on the valuations in the file V, where each cut is answered by the least right answer, and
-/// `replay F V` with the answers that stand in V; each writes one line.
+/// `check F` writes one line with the counts of the core of the protocol in the file F. `print F` writes its
+/// canonical text, line by line. `paths F` writes a line for each goal of the core, when it is made, and one of their
+/// count. `run F V` runs it on the valuations in the file V, where each cut is answered by the least right answer,
+/// and `replay F V` with the answers that stand in V; each writes one line.
 /// What stops them is told by one line too, the first of these: the words are no command (`Usage`); F can't be read
-/// (`ReadFault`) or has more than 1,048,576 bytes (`Refused`); its text has a fault, the first of which is told with its
-/// place (`Refused`); and, where more than `print` is asked for, the program breaks a rule, the first of which is told
-/// (`Refused`), or passes a limit of expansion (`Limit`); V can't be read, is too long, or has a fault of form (`Refused`);
-/// an answer is refused (`Refused`), or a number of the run doesn't fit (`Limit`). `ReadFault` comes only
-/// where the shelf's count of faults rose, and `WriteFault` only where the sink's did; then a front of what was to be
-/// written is out. The sink gets line after line. The shelf is asked for V only once F's program keeps the rules and passes
-/// no limit, so a `ReadFault` names V only then. `Memory` may come at any time, and writes a line of its own.
+/// (`ReadFault`) or has more than 1,048,576 bytes (`Refused`); its text has a fault, the first of which is told with
+/// its place (`Refused`); and, where more than `print` is asked for, the program breaks a rule, the first of which is
+/// told (`Refused`), or passes a limit of expansion (`Limit`); V can't be read, is too long, or has a fault of form
+/// (`Refused`); an answer is refused (`Refused`), or a number of the run, or of a goal, doesn't fit or a goal is one
+/// too many (`Limit`). `ReadFault` comes only where the shelf's count of faults rose, and `WriteFault` only where the
+/// sink's did; then a front of what was to be written is out. The sink gets line after line. The shelf is asked for V
+/// only once F's program keeps the rules and passes no limit, so a `ReadFault` names V only then. `Memory` may come
+/// at any time, and writes a line of its own; of `paths` the lines of goals before a refusal, or before that line,
+/// are out.
 pub fn top<S: Shelf, K: Sink>(
     alloc: Global,
     words: &Vec<String>,

@@ -7,7 +7,7 @@ use slice_report::Refusal;
 /// How the program ends.
 #[derive(Clone, Copy, Debug, PartialEq, Eq)]
 pub enum Status {
-    /// The work was done: a text was printed, a core was counted, or nobody is envied.
+    /// The work was done: a text was printed, a core was counted, its goals were told, or nobody is envied.
     Good,
     /// The run got stuck, or someone is envied.
     Negative,
