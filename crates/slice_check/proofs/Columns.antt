@@ -1,7 +1,7 @@
 -- The sums of an unknown, row by row, and of the unknowns, one by one.
-use Rattle.std.proofs.Common.{◌≡◌, ◌<◌, ◌≤◌, ◌+◌, ℕ, suc, List, length, ap, sym, subst, arith, ℤ, pos, below_more, ◌*ℤ◌, ◌+ℤ◌, ◌≤ℤ◌, SFits, ◌∙◌}
+use Rattle.std.proofs.Common.{◌≡◌, ◌≤◌, ◌+◌, ℕ, suc, List, length, ap, subst, arith, ℤ, pos, below_more, ◌*ℤ◌, ◌+ℤ◌, ◌≤ℤ◌, SFits, ◌∙◌}
 use Rattle.std.specs.Int.{w128}
-use Rattle.std.proofs.Common.{◌⊎◌, inl, inr}
+use Rattle.std.proofs.Common.{inl, inr}
 use Rattle.std.proofs.lemmas.Bool.{cases_lt}
 use Rattle.std.proofs.lemmas.List.{get_or_past}
 use Rattle.slice_linear.proofs.Ring.{linear, mul_zero}

@@ -1,2 +1,10 @@
+pub mod Claims
 pub mod Columns
+pub mod Exclusive
+pub mod OneStop
+pub mod OneVerdict
+pub mod Passing
+pub mod ReadLines
 pub mod RowsAt
+pub mod Standing
+pub mod Stopping

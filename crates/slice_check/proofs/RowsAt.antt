@@ -1,5 +1,5 @@
 -- A row of the list and a number of a list, as the definitions and the code read them.
-use Rattle.std.proofs.Common.{SFits, ◌∙◌, ◌≡◌, ◌<◌, ℕ, zero, suc, List, [], ◌∷◌, length, get_or, ap, sym, subst, arith, ℤ, pos, to_z, of_z, refl}
+use Rattle.std.proofs.Common.{SFits, ◌∙◌, ◌≡◌, ◌<◌, ℕ, zero, suc, List, [], ◌∷◌, length, get_or, ap, sym, subst, arith, ℤ, pos, refl}
 use Rattle.std.specs.Prelude.{◌<ℤ◌}
 use Rattle.std.specs.Int.{w128}
 use Rattle.std.proofs.lemmas.Int.{to_z-of_z}

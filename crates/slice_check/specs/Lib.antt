@@ -1,1 +1,4 @@
+pub mod Certificate
+pub mod Faults
+pub mod Steps
 pub mod Verdicts

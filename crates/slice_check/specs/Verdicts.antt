@@ -1,5 +1,5 @@
 -- What each verdict on multipliers says. The cases exclude one another, and one of them always holds.
-use Rattle.std.specs.Prelude.{ℕ, zero, suc, ◌<◌, ◌≡◌, ◌≢◌, List, length, ℤ, pos, ◌*ℤ◌, ◌≤ℤ◌, ◌<ℤ◌}
+use Rattle.std.specs.Prelude.{ℕ, suc, ◌<◌, ◌≡◌, ◌≢◌, List, length, ℤ, pos, ◌*ℤ◌, ◌≤ℤ◌, ◌<ℤ◌}
 use Rattle.slice_num.specs.Rational.{Fits}
 use Rattle.slice_linear.specs.Sums.{at, sum_to}
 use Rattle.slice_linear.specs.Rows.{LinearRow, Refutes, IsAbove, KindTakes, kind_at, coefs_at, weighted, width}

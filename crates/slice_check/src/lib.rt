@@ -1,8 +1,14 @@
 //! The checker of certificates.
 #![tactic(auto)]
 
+pub mod answer;
+pub mod check;
+mod goals_left;
+pub mod laws;
 pub mod verdict;
 
+pub use answer::{CertAnswer, CertFault, HeaderField, Rejection};
+pub use check::check_certificate;
 pub use verdict::{Verdict, refutes};
 
 #[cfg(test)]

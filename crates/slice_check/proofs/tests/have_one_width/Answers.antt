@@ -1,4 +1,4 @@
-use Rattle.std.proofs.Common.{◌∙◌, ap, sym, refl, arith, below_more, length, List, ℤ}
+use Rattle.std.proofs.Common.{◌∙◌, ap, sym, refl, arith, below_more, length}
 use Rattle.slice_check.proofs.RowsAt.{coefs_of}
 use Rattle.slice_check.proofs.tests.have_one_width.Goals as goal
 

@@ -1,4 +1,4 @@
-use Rattle.std.proofs.Common.{SFits, ◌≡◌, ◌∙◌, ◌<◌, ◌*ℤ◌, ℤ, List, length, arith, rules, ap, sym, subst}
+use Rattle.std.proofs.Common.{SFits, ◌≡◌, ◌∙◌, ◌*ℤ◌, ℤ, List, length, arith, rules, ap, sym, subst}
 use Rattle.std.specs.Int.{w128}
 use Rattle.std.proofs.lemmas.Int.{to_z-of_z}
 use Rattle.slice_num.specs.Rational.{Fits}
