@@ -1,3 +1,4 @@
+pub mod CertifyReport
 pub mod CoreReport
 pub mod EnvyLaws
 pub mod GoalReport

@@ -1,9 +1,10 @@
 //! The lines that the program writes: compact JSON with keys in the order of their bytes, and one LF.
 //!
-//! `refusal_line` tells why a command is refused, `check_line` what a core counts, `run_line` what a run comes to, and
-//! `goal_line` and `goals_line` what has to be refuted of a core.
+//! `refusal_line` tells why a command is refused, `check_line` what a core counts, `run_line` what a run comes to,
+//! `goal_line` and `goals_line` what has to be refuted of a core, and `certify_line` what is said of a certificate.
 #![tactic(auto)]
 
+mod certify;
 mod check;
 mod goal;
 mod laws;
@@ -11,6 +12,7 @@ mod line;
 pub mod refusal;
 mod run;
 
+pub use certify::certify_line;
 pub use check::check_line;
 pub use goal::{goal_line, goals_line};
 pub use laws::told_envy_is_envy;

@@ -5,7 +5,6 @@ use Rattle.std.proofs.lemmas.List.{append-nil, length-take, take-take}
 use Rattle.std.specs.Prelude.{OnErr, Bool, true, false, if◌then◌else◌}
 use Rattle.slice_io.specs.Files.{Files}
 use Rattle.slice_io.specs.Told.{appended, appended-append, FrontIsOut}
-use Rattle.slice_io.specs.Causes.{Rose}
 use Rattle.slice_json.specs.Texts.{line_of}
 use Rattle.slice_report.specs.Refusals.{HasTexts, refused_json}
 use Rattle.slice_report.specs.declared.refusal.Refusal.{Refusal}

@@ -1,12 +1,10 @@
 -- Where no goal of a program's core has rows with a solution, every run of the program is fair.
-use Rattle.std.proofs.Common.{◌≡◌, ℕ, List, length, get_or, sym, subst}
+use Rattle.std.proofs.Common.{◌≡◌, ℕ, List, length, get_or, subst}
 use Rattle.std.specs.List.{All}
-use Rattle.std.specs.Prelude.{ℤ}
 use Rattle.slice_num.specs.Valuation.{Valuation, IsValuationList}
 use Rattle.slice_num.specs.declared.cut_answer.CutAnswer.{CutAnswer}
 use Rattle.slice_ast.specs.Code.{PlainProgram}
-use Rattle.slice_parse.specs.Laws.{IsProgramOf}
-use Rattle.slice_linear.specs.Rows.{HaveNoSolution, Refutes}
+use Rattle.slice_linear.specs.Rows.{HaveNoSolution}
 use Rattle.slice_linear.proofs.Motzkin.{refuted_rows_have_no_solution}
 use Rattle.slice_core.specs.Agents.{IsAgent}
 use Rattle.slice_core.specs.Division.{IsDivision, IsFair}
@@ -24,7 +22,6 @@ use Rattle.slice_expand.specs.Kept.{without_trace}
 use Rattle.slice_run.specs.RunLaws.{Tells, run_on as core_run_on}
 use Rattle.slice_run.specs.Walk.{Told}
 use Rattle.slice_run.proofs.LeastRun.{least_runs_exist}
-use Rattle.slice_top.specs.Cores.{IsCoreOf}
 use Rattle.slice_top.specs.Headline.{IsFairEnd, IsDoneEnd, EveryRunIsFair, run_on}
 use Rattle.slice_top.specs.Laws.{UnsolvedGoalsMeanFairRuns, RefutedGoalsMeanFairRuns}
 use Rattle.slice_top.proofs.ToldRuns.{core_formed, kept}

@@ -1,5 +1,5 @@
 -- The faults of the crates below as refusals.
-use Rattle.std.proofs.Common.{◌≡◌, ◌≢◌, ℕ, List, Option, Some, None, refl}
+use Rattle.std.proofs.Common.{◌≡◌, ◌≢◌, ℕ, List, Some, refl}
 use Rattle.slice_lex.specs.declared.token.LexFault.TheVariants as lex
 use Rattle.slice_parse.specs.declared.parser.ParseFault.{ParseFault}
 use Rattle.slice_parse.specs.declared.parser.ParseFault.TheVariants as parser
@@ -18,7 +18,7 @@ use Rattle.slice_step.specs.ValuationFile.{valuations_fault, replay_fault}
 use Rattle.slice_step.specs.declared.fault.ValuationFault.{ValuationFault}
 use Rattle.slice_step.specs.declared.fault.ValuationFault.TheVariants as values
 use Rattle.slice_run.specs.Outcomes.{FaultIs}
-use Rattle.slice_run.specs.Walk.{Told, Walked, Refused}
+use Rattle.slice_run.specs.Walk.{Told, Walked}
 use Rattle.slice_top.specs.Programs.{RefusesText, text_refusal}
 use Rattle.slice_top.specs.Cores.{RefusesRules, RefusesLimits, rule_refusal, limit_refusal}
 use Rattle.slice_top.specs.Values.{RefusesValues, RefusesReplay, values_refusal}

@@ -1,5 +1,5 @@
 -- Goals are told line by line.
-use Rattle.std.proofs.Common.{◌≡◌, ◌<◌, ◌≤◌, ◌∙◌, ℕ, suc, ◌+◌, Bool, true, false, List, [], ◌∷◌, ◌++◌, length, take, Option, Some, None, Result, Ok, Err, ap, sym, subst, refl, arith, append_assoc}
+use Rattle.std.proofs.Common.{◌≡◌, ◌<◌, ◌∙◌, ℕ, suc, ◌+◌, Bool, true, false, List, [], ◌∷◌, ◌++◌, length, take, Option, Result, Ok, Err, ap, sym, subst, refl, arith, append_assoc}
 use Rattle.std.specs.Prelude.{nat_lt, if◌then◌else◌, IfOk, IfErr}
 use Rattle.std.proofs.Math.Seq.{take-append-add}
 use Rattle.std.proofs.lemmas.List.{length-append, take-append-le}
@@ -12,13 +12,12 @@ use Rattle.slice_paths.specs.declared.goal.GoalFault.{GoalFault}
 use Rattle.slice_paths.specs.declared.goal.GoalFault.TheVariants as fault
 use Rattle.slice_report.specs.GoalReport.{count_json, goal_json}
 use Rattle.slice_report.specs.Refusals.{refused_json}
-use Rattle.slice_report.specs.declared.refusal.Refusal.{Refusal}
 use Rattle.slice_report.specs.declared.refusal.Refusal.TheVariants.{GoalLimit, FormOverflow}
 use Rattle.slice_top.proofs.Endings.{appended_nothing}
 use Rattle.slice_top.specs.Answers.{Answer, answer_of, one_line, after_line, refused, goals_answer}
 use Rattle.slice_top.specs.Goals.{goal_refusal}
 use Rattle.slice_top.specs.Reports.{AreLines, none, ended, IsOut, first_lines}
-use Rattle.slice_top.specs.Settled.{Wrote, WroteFront, Ends, LinesStop, LineStops}
+use Rattle.slice_top.specs.Settled.{Wrote, Ends, LinesStop, LineStops}
 use Rattle.slice_top.specs.Statuses.{refused_status}
 use Rattle.slice_top.specs.Stops.{stop_for}
 use Rattle.slice_top.specs.declared.status.Status.{Status}

@@ -1,8 +1,10 @@
+pub mod CheckedFiles
 pub mod Endings
 pub mod Faults
 pub mod Fair
 pub mod FileFaults
 pub mod GoalLines
+pub mod Good
 pub mod Outcomes
 pub mod SomeAnswers
 pub mod Stages

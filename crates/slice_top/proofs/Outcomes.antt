@@ -1,5 +1,5 @@
 -- The line of a run, and its status.
-use Rattle.std.proofs.Common.{◌≡◌, List, [], ◌∷◌, ℕ, Result, Ok, Err, refl}
+use Rattle.std.proofs.Common.{◌≡◌, List, [], ◌∷◌, ℕ, Result, Ok, Err}
 use Rattle.std.specs.Prelude.{IfOk, IfErr}
 use Rattle.slice_json.specs.Texts.{line_of}
 use Rattle.slice_run.specs.Walk.{Told, Divided, Halted, Walked, Good}

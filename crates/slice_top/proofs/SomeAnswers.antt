@@ -1,5 +1,5 @@
 -- Files and a command have an answer.
-use Rattle.std.proofs.Common.{◌≡◌, ◌≢◌, ◌∙◌, ℕ, ◌+◌, ◌<◌, ◌⊎◌, inl, inr, Bool, true, false, List, [], ◌∷◌, length, Option, Some, None, Result, Ok, Err, sym, refl, ap, subst, ⊎_elim}
+use Rattle.std.proofs.Common.{◌≡◌, ◌≢◌, ◌∙◌, ℕ, ◌+◌, ◌<◌, ◌⊎◌, inl, inr, Bool, true, false, List, [], ◌∷◌, length, Option, Some, None, sym, refl, ap, subst, ⊎_elim}
 use Rattle.std.specs.Prelude.{nat_lt, if◌then◌else◌}
 use Rattle.std.proofs.lemmas.Bool.Decides.{leb_tells}
 use Rattle.slice_num.specs.Valuation.{Valuation}
@@ -22,7 +22,7 @@ use Rattle.slice_core.specs.Tree.{Core}
 use Rattle.slice_expand.specs.declared.fault.ExpandFault.{ExpandFault}
 use Rattle.slice_expand.specs.declared.fault.ExpandFault.TheVariants as expansion
 use Rattle.slice_expand.specs.Expansion.{core_of, marked}
-use Rattle.slice_expand.specs.Limits.{Event, ACall, ANode, Counted, Within, Past, counted, events, limit_of, first_limit}
+use Rattle.slice_expand.specs.Limits.{Event, ACall, ANode, Counted, Past, counted, events, limit_of, first_limit}
 use Rattle.slice_step.specs.ValuationFile.{IsValuationFile, IsReplayFile, valuations_fault, replay_fault}
 use Rattle.slice_num.specs.declared.cut_answer.CutAnswer.{CutAnswer}
 use Rattle.slice_step.specs.declared.fault.ValuationFault.{ValuationFault}
@@ -37,13 +37,13 @@ use Rattle.slice_paths.specs.Events.{events_of}
 use Rattle.slice_report.specs.CoreReport.{core_json}
 use Rattle.slice_report.specs.declared.refusal.Refusal.{Refusal}
 use Rattle.slice_report.specs.declared.refusal.Refusal.TheVariants as refusal
-use Rattle.slice_top.specs.Answers.{Answer, answer_of, one_line, refused, Stage, stops, goes, WithFile, WithProgram, WithCore, IsPrintAnswer, IsCheckAnswer, IsPathsAnswer, goals_answer, IsRunAnswer, IsReplayAnswer, TellsLeastRun, TellsGivenRun, IsOutcome, IsAnswer}
-use Rattle.slice_top.specs.Commands.{Command, check, print, paths, run, replay}
-use Rattle.slice_top.specs.Cores.{RefusesCore, IsCoreOf, rule_refusal, limit_refusal}
+use Rattle.slice_top.specs.Answers.{Answer, answer_of, one_line, refused, Stage, stops, goes, WithFile, WithProgram, WithCore, IsPrintAnswer, IsCheckAnswer, IsPathsAnswer, goals_answer, IsRunAnswer, IsReplayAnswer, TellsLeastRun, TellsGivenRun, IsOutcome}
+use Rattle.slice_top.specs.Commands.{check, print, paths, run, replay, certify}
+use Rattle.slice_top.specs.Cores.{RefusesCore, IsCoreOf}
 use Rattle.slice_top.specs.FilesRead.{IsFileOf, RefusesFile, limit}
 use Rattle.slice_top.specs.Laws.{AnswersExist}
-use Rattle.slice_top.specs.Programs.{RefusesText, text_refusal}
-use Rattle.slice_top.specs.Runs.{RefusesRun, run_refusal, told_status}
+use Rattle.slice_top.specs.Programs.{RefusesText}
+use Rattle.slice_top.specs.Runs.{run_refusal, told_status}
 use Rattle.slice_top.specs.Values.{RefusesValues, RefusesReplay, values_refusal}
 use Rattle.slice_top.specs.declared.status.Status.TheVariants as status
 use Rattle.slice_top.proofs.FileFaults.{replay_found, fault_not_memory, replay_fault_not_memory}
@@ -198,11 +198,12 @@ some_given text bytes p c is made =
 -- ---- all commands
 
 pub some_answer : AnswersExist
-some_answer files None = (refused refusal.Usage, refl)
-some_answer files (Some (check f)) = some_core files f IsCheckAnswer (λ text p c is made. (one_line (core_json c) status.Good, refl))
-some_answer files (Some (print f)) = some_program files f IsPrintAnswer (λ text p is. (answer_of (canonical_text p) status.Good, refl))
-some_answer files (Some (paths f)) = some_core files f IsPathsAnswer (λ text p c is made. (goals_answer (events_of c) 0, refl))
-some_answer files (Some (run f v)) =
+some_answer files None w = (refused refusal.Usage, refl)
+some_answer files (Some (check f)) w = some_core files f IsCheckAnswer (λ text p c is made. (one_line (core_json c) status.Good, refl))
+some_answer files (Some (print f)) w = some_program files f IsPrintAnswer (λ text p is. (answer_of (canonical_text p) status.Good, refl))
+some_answer files (Some (paths f)) w = some_core files f IsPathsAnswer (λ text p c is made. (goals_answer (events_of c) 0, refl))
+some_answer files (Some (run f v)) w =
     some_core files f (IsRunAnswer (Some files) v) (λ text p c is made. some_file files v (λ bytes. TellsLeastRun bytes c) (λ bytes. some_least text bytes p c is made))
-some_answer files (Some (replay f v)) =
+some_answer files (Some (replay f v)) w =
     some_core files f (IsReplayAnswer (Some files) v) (λ text p c is made. some_file files v (λ bytes. TellsGivenRun bytes c) (λ bytes. some_given text bytes p c is made))
+some_answer files (Some (certify f c)) w = absurd w

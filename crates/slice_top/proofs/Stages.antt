@@ -1,5 +1,5 @@
 -- Stages in a row: why work stops, and the answers that follow.
-use Rattle.std.proofs.Common.{◌≡◌, ℕ, ◌+◌, ◌<◌, ◌≤◌, List, length, Option, Some, None, refl, arith}
+use Rattle.std.proofs.Common.{ℕ, ◌+◌, ◌<◌, ◌≤◌, List, length, Option, Some, None, refl, arith}
 use Rattle.std.specs.Prelude.{replicate, Result, Ok, Err, IfErr, IfOk}
 use Rattle.std.proofs.lemmas.List.{length-replicate}
 use Rattle.slice_io.specs.Causes.{Rose}

@@ -1,5 +1,5 @@
 -- What is told of a core's run is told of the program's.
-use Rattle.std.proofs.Common.{◌≡◌, ◌∙◌, ℕ, ◌<◌, List, [], ◌∷◌, ◌++◌, take, Option, Some, ap, sym, subst, refl}
+use Rattle.std.proofs.Common.{◌≡◌, ℕ, ◌<◌, List, [], ◌∷◌, ◌++◌, take, ap, sym, subst, refl}
 use Rattle.slice_num.specs.Pieces.{joined}
 use Rattle.slice_num.specs.Valuation.{Valuation, IsValuationList}
 use Rattle.slice_num.specs.declared.cut_answer.CutAnswer.{CutAnswer}
@@ -21,7 +21,7 @@ use Rattle.slice_expand.proofs.Programs.{checked_cores_are_well_formed}
 use Rattle.slice_step.specs.ValuationFile.{IsValuationFile, IsReplayFile}
 use Rattle.slice_run.specs.Outcomes.{Divides}
 use Rattle.slice_run.specs.RunLaws.{Tells, TellsValues, IsBad, IsTold, IsLeastTold, run_on as core_run_on}
-use Rattle.slice_run.specs.Walk.{Told, Divided, Halted, Walked, Good, Refused, outcome, Least, Given}
+use Rattle.slice_run.specs.Walk.{Told, Divided, Halted, Refused, outcome, Least, Given}
 use Rattle.slice_run.specs.declared.outcome.RunFault.{RunFault}
 use Rattle.slice_run.specs.declared.outcome.RunFault.TheVariants as fault
 use Rattle.slice_run.proofs.GivenRun.{given_walks}

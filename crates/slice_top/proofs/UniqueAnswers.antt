@@ -1,5 +1,5 @@
 -- Files and a command have one answer.
-use Rattle.std.proofs.Common.{◌≡◌, ◌≢◌, ◌∙◌, ℕ, ◌<◌, ◌⊎◌, inl, inr, List, length, Option, Some, None, sym, refl, ap, subst, arith}
+use Rattle.std.proofs.Common.{◌≡◌, ◌≢◌, ◌∙◌, ℕ, ◌<◌, inl, inr, List, length, Option, Some, None, sym, refl, ap, subst, arith}
 use Rattle.slice_num.specs.Valuation.{Valuation}
 use Rattle.slice_io.specs.Files.{Files, file_of, told_file, IsFile}
 use Rattle.slice_ast.specs.Code.{PlainProgram}
@@ -11,22 +11,28 @@ use Rattle.slice_affine.specs.Conditions.{IsParsed}
 use Rattle.slice_affine.proofs.ReadLemmas.{read_rises}
 use Rattle.slice_affine.proofs.UniqueLemmas.{first_faults_unique}
 use Rattle.slice_core.specs.Tree.{Core}
-use Rattle.slice_expand.specs.Limits.{first_limit}
-use Rattle.slice_step.specs.ValuationFile.{IsValuationFile, IsReplayFile, valuations_fault, replay_fault}
+use Rattle.slice_step.specs.ValuationFile.{IsValuationFile, IsReplayFile}
 use Rattle.slice_step.proofs.OneAnswer.{one_list}
 use Rattle.slice_num.specs.declared.cut_answer.CutAnswer.{CutAnswer}
 use Rattle.slice_run.specs.declared.outcome.RunFault.{RunFault}
 use Rattle.slice_run.specs.Walk.{Told, Walked, Good, Refused, outcome, Least, Given}
 use Rattle.slice_report.specs.declared.refusal.Refusal.{Refusal}
 use Rattle.slice_report.specs.declared.refusal.Refusal.TheVariants.{ReadFault, TooLong}
-use Rattle.slice_top.specs.Answers.{Answer, refused, Stage, stops, goes, WithFile, WithProgram, WithCore, IsPrintAnswer, IsCheckAnswer, IsPathsAnswer, IsRunAnswer, IsReplayAnswer, TellsLeastRun, TellsGivenRun, IsOutcome, IsAnswer}
-use Rattle.slice_top.specs.Commands.{Command, check, print, paths, run, replay}
-use Rattle.slice_top.specs.Cores.{RefusesRules, RefusesLimits, RefusesCore, IsCoreOf, rule_refusal, limit_refusal}
+use Rattle.slice_check.specs.Certificate.{claim_on}
+use Rattle.slice_check.specs.Faults.{IsUnread}
+use Rattle.slice_check.specs.declared.answer.CertAnswer.{CertAnswer}
+use Rattle.slice_check.specs.declared.answer.CertFault.{CertFault}
+use Rattle.slice_check.proofs.OneStop.{one_fault, one_answer, answer_or_fault}
+use Rattle.slice_top.specs.Certificates.{SaysOfFile, ChecksFile, RefusesCertificate, missing, given_up, checker_refusal}
+use Rattle.slice_top.specs.Answers.{Answer, refused, Stage, stops, goes, WithFile, WithProgram, WithCore, IsPrintAnswer, IsCheckAnswer, IsPathsAnswer, IsRunAnswer, IsReplayAnswer, IsCertifyAnswer, TellsLeastRun, TellsGivenRun, IsOutcome}
+use Rattle.slice_top.specs.Commands.{check, print, paths, run, replay, certify}
+use Rattle.slice_top.specs.Cores.{RefusesCore, IsCoreOf, rule_refusal, limit_refusal}
 use Rattle.slice_top.specs.FilesRead.{IsFileOf, RefusesFile}
 use Rattle.slice_top.specs.Laws.{AnswersAreUnique}
 use Rattle.slice_top.specs.Programs.{RefusesText, text_refusal}
 use Rattle.slice_top.specs.Runs.{RefusesRun, run_refusal}
 use Rattle.slice_top.proofs.FileFaults.{values_apart, replay_apart, replay_same}
+use Rattle.slice_top.proofs.CheckedFiles.{not_refused}
 use Rattle.slice_top.proofs.ToldRuns.{some_agent}
 use Rattle.slice_top.specs.Values.{RefusesValues, RefusesReplay, values_refusal}
 
@@ -156,6 +162,37 @@ given_one bytes core some =
     (λ r s h k. one_refusal values_refusal h.0 k.0 r s (some_same (sym h.1.1 ∙ k.1.1)) h.1.0 k.1.0) (λ r file h k. replay_apart bytes core.agents file.0 file.1 h.0 some k h.1.1) (λ x y h k. replay_same bytes core.agents x y h k)
     (λ file h. outcome_one (outcome file.0 core (Given file.1)))
 
+-- ---- certificates
+
+-- the bytes of a file that is there
+held : (o : Option (List ℕ)) → Some o ≢ Some None → (bytes : List ℕ) × (Some o ≡ Some (Some bytes))
+held None there = absurd (there refl)
+held (Some bytes) there = (bytes, refl)
+
+module _ (files : Files) (name : List ℕ) (core : Core) where
+  bytes_of : {Says : List ℕ → Type 0} → SaysOfFile (Some files) name Says → (bytes : List ℕ) × (told_file (Some files) name ≡ Some (Some bytes))
+  bytes_of h = held (file_of name files) h.there
+
+  own_fault : (f : CertFault) (r : Refusal) → checker_refusal name f ≡ Some r → IsUnread f → ⊥
+  own_fault f r e u = not_refused name f r u e
+
+  one_certificate_refusal : (r s : Refusal) → RefusesCertificate (Some files) name core r → RefusesCertificate (Some files) name core s → r ≡ s
+  one_certificate_refusal r s (missing e h) (missing d k) = h ∙ sym k
+  one_certificate_refusal r s (missing e h) (given_up g d k) = absurd (k.there e)
+  one_certificate_refusal r s (given_up f e h) (missing d k) = absurd (h.there d)
+  one_certificate_refusal r s (given_up f e h) (given_up g d k) =
+      let b = bytes_of h in
+      one_refusal (checker_refusal name) f g r s (one_fault (claim_on core) b.0 f g (own_fault f r e) (own_fault g s d) (h.says b.0 b.1) (k.says b.0 b.1)) e d
+
+  certificate_apart : (r : Refusal) (x : CertAnswer) → RefusesCertificate (Some files) name core r → ChecksFile (Some files) name core x → ⊥
+  certificate_apart r x (missing e h) k = k.there e
+  certificate_apart r x (given_up f e h) k = let b = bytes_of h in own_fault f r e (answer_or_fault (claim_on core) b.0 x f (k.says b.0 b.1) (h.says b.0 b.1))
+
+  certify_one : One (IsCertifyAnswer (Some files) name core)
+  certify_one =
+      stage_one (RefusesCertificate (Some files) name core) (ChecksFile (Some files) name core) _ one_certificate_refusal certificate_apart
+      (λ x y h k. let b = bytes_of h in one_answer (claim_on core) b.0 x y (h.says b.0 b.1) (k.says b.0 b.1)) (λ x h a b e f. told_is e f)
+
 -- ---- all commands
 
 -- where a text is read as one program
@@ -166,3 +203,4 @@ answer_unique once files (Some (print f)) a b h k = program_one once files f IsP
 answer_unique once files (Some (paths f)) a b h k = with_core_one once files f IsPathsAnswer (λ c some x y e g. told_is e g) a b h k
 answer_unique once files (Some (run f v)) a b h k = with_core_one once files f (IsRunAnswer (Some files) v) (λ c some. file_one files v _ (λ bytes. least_one bytes c some)) a b h k
 answer_unique once files (Some (replay f v)) a b h k = with_core_one once files f (IsReplayAnswer (Some files) v) (λ c some. file_one files v _ (λ bytes. given_one bytes c some)) a b h k
+answer_unique once files (Some (certify f c)) a b h k = with_core_one once files f (IsCertifyAnswer (Some files) c) (λ core some. certify_one files c core) a b h k

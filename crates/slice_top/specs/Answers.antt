@@ -1,5 +1,5 @@
 -- What is answered to a command over files, faults of devices and want of memory aside: by stages, in the order of refusals.
--- Of a shelf that tells no files it is said for some bytes of each file.
+-- Of a shelf that tells no files it is said for some bytes of each file, and of a certificate nothing but the form of its line.
 use Rattle.std.specs.Prelude.{◌≡◌, ℕ, ◌+◌, nat_lt, if◌then◌else◌, List, [], ◌∷◌, ◌++◌, Option, Some, None}
 use Rattle.serde_json.specs.Data.{Data}
 use Rattle.slice_json.specs.Texts.{line_of}
@@ -13,13 +13,16 @@ use Rattle.slice_core.specs.Tree.{Core}
 use Rattle.slice_step.specs.ValuationFile.{IsValuationFile, IsReplayFile}
 use Rattle.slice_run.specs.Walk.{Told, Walked, Good, outcome, Least, Given}
 use Rattle.slice_paths.specs.Events.{Event, Meets, Breaks, events_of, goal_at, goal_limit}
+use Rattle.slice_check.specs.declared.answer.CertAnswer.{CertAnswer}
+use Rattle.slice_report.specs.CertifyReport.{certify_json}
 use Rattle.slice_report.specs.GoalReport.{count_json, goal_json}
 use Rattle.slice_report.specs.Refusals.{refused_json}
 use Rattle.slice_report.specs.RunReport.{told_json}
 use Rattle.slice_report.specs.CoreReport.{core_json}
 use Rattle.slice_report.specs.declared.refusal.Refusal.{Refusal}
 use Rattle.slice_report.specs.declared.refusal.Refusal.TheVariants.{Usage, GoalLimit, FormOverflow}
-use Rattle.slice_top.specs.Commands.{Command, check, print, paths, run, replay}
+use Rattle.slice_top.specs.Certificates.{ChecksFile, RefusesCertificate, checked_status}
+use Rattle.slice_top.specs.Commands.{Command, check, print, paths, run, replay, certify}
 use Rattle.slice_top.specs.Statuses.{refused_status}
 use Rattle.slice_top.specs.FilesRead.{IsFileOf, RefusesFile}
 use Rattle.slice_top.specs.Programs.{RefusesText}
@@ -108,12 +111,17 @@ TellsGivenRun bytes core = Stage (RefusesReplay bytes core.agents) (λ (file : L
 abbrev pub IsReplayAnswer : Option Files → List ℕ → Core → Answer → Type 0
 IsReplayAnswer told v core = WithFile told v (λ bytes. TellsGivenRun bytes core)
 
+-- `certify F C`: what the checker says of C
+abbrev pub IsCertifyAnswer : Option Files → List ℕ → Core → Answer → Type 0
+IsCertifyAnswer told c core = Stage (RefusesCertificate told c core) (ChecksFile told c core) (λ (x : CertAnswer) a. a ≡ one_line (certify_json x) (checked_status x))
+
 abbrev pub IsAnswerTo : Option Files → Command → Answer → Type 0
 IsAnswerTo told (check f) = WithCore told f IsCheckAnswer
 IsAnswerTo told (print f) = WithProgram told f IsPrintAnswer
 IsAnswerTo told (paths f) = WithCore told f IsPathsAnswer
 IsAnswerTo told (run f v) = WithCore told f (IsRunAnswer told v)
 IsAnswerTo told (replay f v) = WithCore told f (IsReplayAnswer told v)
+IsAnswerTo told (certify f c) = WithCore told f (IsCertifyAnswer told c)
 
 -- the answer to the command of some words, if they are one
 abbrev pub IsAnswer : Option Files → Option Command → Answer → Type 0

@@ -9,6 +9,7 @@ pub data Command : Type 0 where
   paths : (protocol : List ℕ) → Command
   run : (protocol values : List ℕ) → Command
   replay : (protocol values : List ℕ) → Command
+  certify : (protocol certificate : List ℕ) → Command
 
 -- `check F`: the protocol in the file F is checked and counted; `print F`: it is written as its canonical text; `paths F`: what
 -- has to be refuted of it is written
@@ -19,9 +20,12 @@ of_one_file word f =
     else (if bytes_eq word (codes "paths") then Some (paths f) else None))
 
 -- `run F V`: the protocol in the file F is run on the valuations in the file V; `replay F V`: with the answers to its cuts
--- that stand there too
+-- that stand there too; `certify F C`: the certificate in the file C is checked for it
 abbrev pub of_two_files : List ℕ → List ℕ → List ℕ → Option Command
-of_two_files word f v = if bytes_eq word (codes "run") then Some (run f v) else (if bytes_eq word (codes "replay") then Some (replay f v) else None)
+of_two_files word f v =
+    if bytes_eq word (codes "run") then Some (run f v)
+    else (if bytes_eq word (codes "replay") then Some (replay f v)
+    else (if bytes_eq word (codes "certify") then Some (certify f v) else None))
 
 -- the command of these words, those after the program's name; the name of a file is any text that isn't empty
 abbrev pub command_of : List (List ℕ) → Option Command

@@ -1,5 +1,5 @@
 -- How a program is checked and expanded.
-use Rattle.std.specs.Prelude.{◌≡◌, ◌⊎◌, ℕ, List, Option, Some, None}
+use Rattle.std.specs.Prelude.{◌≡◌, ◌⊎◌, Option, Some, None}
 use Rattle.slice_ast.specs.Code.{PlainProgram}
 use Rattle.slice_affine.specs.declared.fault.AffineFault.{AffineFault}
 use Rattle.slice_affine.specs.declared.fault.AffineFault.TheVariants as rule

@@ -1,15 +1,18 @@
--- What it means that every run of a protocol is fair.
-use Rattle.std.specs.Prelude.{ℕ, ⊤, List, length}
-use Rattle.std.specs.List.{All}
+-- What it means that every run of the protocol in a file is fair.
+use Rattle.std.specs.Prelude.{◌≡◌, ℕ, ⊤, List, length, Option, Some, None}
 use Rattle.slice_num.specs.Pieces.{joined}
 use Rattle.slice_num.specs.Valuation.{Valuation, IsValuationList}
 use Rattle.slice_num.specs.declared.cut_answer.CutAnswer.{CutAnswer}
+use Rattle.slice_io.specs.Files.{Files, file_of}
 use Rattle.slice_ast.specs.Code.{PlainProgram}
+use Rattle.slice_parse.specs.Laws.{IsTextOf}
+use Rattle.slice_affine.specs.Rules.{MeetsRules}
 use Rattle.slice_core.specs.Agents.{IsAgent}
 use Rattle.slice_core.specs.Division.{AreDisjoint, IsEnvious}
 use Rattle.slice_core.specs.Measures.{worth_of, length_of}
 use Rattle.slice_core.specs.Run.{Board}
 use Rattle.slice_expand.specs.ProgramRun.{ProgramEnd, Done, Stuck, Few, Bad, Many, run_program}
+use Rattle.slice_top.specs.Commands.{Command, certify}
 
 -- the run of a program on these valuations, with these answers to its cuts
 abbrev pub run_on : List Valuation → PlainProgram → List CutAnswer → ProgramEnd
@@ -37,3 +40,17 @@ IsDoneEnd e = ⊥
 pub record EveryRunIsFair (p : PlainProgram) : Type 0 where
   pub fair : (vs : List Valuation) → IsValuationList p.agents.value vs → (ys : List CutAnswer) → IsFairEnd vs (run_on vs p ys)
   pub some : (vs : List Valuation) → IsValuationList p.agents.value vs → (ys : List CutAnswer) × IsDoneEnd (run_on vs p ys)
+
+-- a file of that name is there, whose text is a program that keeps the rules, and every run of it is fair
+pub record HoldsFairProgram (files : Files) (name : List ℕ) : Type 0 where
+  pub text : List ℕ
+  pub there : file_of name files ≡ Some text
+  pub program : PlainProgram
+  pub spelled : IsTextOf text program
+  pub rules : MeetsRules program
+  pub every : EveryRunIsFair program
+
+-- the file whose protocol is shown to be fair where the command ends well
+abbrev pub shown_file : Option Command → Option (List ℕ)
+shown_file (Some (certify f c)) = Some f
+shown_file c = None

@@ -22,7 +22,7 @@ use Rattle.slice_run.specs.declared.outcome.RunFault.{RunFault}
 use Rattle.slice_run.specs.declared.outcome.RunFault.TheVariants as fault
 use Rattle.slice_report.specs.EnvyLaws.{TellsEnvy}
 use Rattle.slice_top.specs.Answers.{Answer, IsAnswer}
-use Rattle.slice_top.specs.Commands.{Command}
+use Rattle.slice_top.specs.Commands.{Command, check, print, paths, run, replay, certify}
 use Rattle.slice_top.specs.Cores.{IsCoreOf}
 use Rattle.slice_top.specs.Headline.{EveryRunIsFair, run_on}
 
@@ -102,6 +102,16 @@ RefutedGoalsMeanFairRuns =
 abbrev pub AnswersAreUnique : Type 0
 AnswersAreUnique = (files : Files) (c : Option Command) (a b : Answer) → IsAnswer (Some files) c a → IsAnswer (Some files) c b → a ≡ b
 
--- and have one
+-- a command that reads its files whole: each but `certify`, which reads a certificate line by line
+abbrev pub ReadsWhole : Option Command → Type 0
+ReadsWhole None = ⊤
+ReadsWhole (Some (check f)) = ⊤
+ReadsWhole (Some (print f)) = ⊤
+ReadsWhole (Some (paths f)) = ⊤
+ReadsWhole (Some (run f v)) = ⊤
+ReadsWhole (Some (replay f v)) = ⊤
+ReadsWhole (Some (certify f c)) = ⊥
+
+-- and such a command has one
 abbrev pub AnswersExist : Type 0
-AnswersExist = (files : Files) (c : Option Command) → (a : Answer) × IsAnswer (Some files) c a
+AnswersExist = (files : Files) (c : Option Command) → ReadsWhole c → (a : Answer) × IsAnswer (Some files) c a

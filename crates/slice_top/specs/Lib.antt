@@ -1,4 +1,5 @@
 pub mod Answers
+pub mod Certificates
 pub mod Commands
 pub mod Cores
 pub mod FilesRead

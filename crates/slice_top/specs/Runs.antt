@@ -2,7 +2,7 @@
 use Rattle.std.specs.Prelude.{◌≡◌, ℕ, List, [], ◌∷◌, Option, Some, None}
 use Rattle.slice_run.specs.declared.outcome.RunFault.{RunFault}
 use Rattle.slice_run.specs.declared.outcome.RunFault.TheVariants as fault
-use Rattle.slice_run.specs.Walk.{Told, Divided, Halted, Walked, Good, Refused}
+use Rattle.slice_run.specs.Walk.{Told, Divided, Halted, Walked, Refused}
 use Rattle.slice_report.specs.RunReport.{envy}
 use Rattle.slice_report.specs.declared.refusal.Refusal.{Refusal}
 use Rattle.slice_report.specs.declared.refusal.Refusal.TheVariants.{RunOverflow, BadAnswer, TooFewAnswers, TooManyAnswers}

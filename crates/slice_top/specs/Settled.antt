@@ -1,7 +1,6 @@
 -- What the work on a command comes to: what it wrote, and what is still to be written.
 use Rattle.std.specs.Prelude.{◌≡◌, ◌≢◌, ◌↔◌, ℕ, ⊤, List, ◌++◌, Option, None}
 use Rattle.std.specs.Str.{IsUtf8}
-use Rattle.slice_io.specs.Causes.{Rose}
 use Rattle.slice_io.specs.Files.{Files}
 use Rattle.slice_io.specs.Told.{appended, FrontIsOut}
 use Rattle.slice_json.specs.Texts.{line_of}

@@ -1,5 +1,5 @@
 -- How the work on a command stops, beside what it says of the answer.
-use Rattle.std.specs.Prelude.{◌≡◌, ℕ, List, IsTrue, ⊤, Option, Some, None}
+use Rattle.std.specs.Prelude.{ℕ, List, IsTrue, ⊤, Option, Some, None}
 use Rattle.std.specs.Str.{IsUtf8}
 use Rattle.slice_num.specs.Name.{is_name}
 use Rattle.slice_report.specs.declared.refusal.Refusal.{Refusal}
@@ -16,6 +16,7 @@ command_view (command.Print protocol) = words.print protocol.now
 command_view (command.Paths protocol) = words.paths protocol.now
 command_view (command.Run protocol values) = words.run protocol.now values.now
 command_view (command.Replay protocol values) = words.replay protocol.now values.now
+command_view (command.Certify protocol certificate) = words.certify protocol.now certificate.now
 
 -- a refusal that work gives, whose words are texts
 abbrev pub IsOfWork : Refusal → Type 0

@@ -8,15 +8,32 @@ ghost use Rattle.slice_top.specs.Stops.{command_view};
 #[derive(Clone, Copy, Debug)]
 pub enum Command<'a> {
     /// `check F`: the protocol in the file F is checked, and its core counted.
-    Check { protocol: &'a str },
+    Check {
+        protocol: &'a str,
+    },
     /// `print F`: the protocol in the file F is written as its canonical text.
-    Print { protocol: &'a str },
+    Print {
+        protocol: &'a str,
+    },
     /// `paths F`: what has to be refuted of the protocol in the file F is written, goal by goal.
-    Paths { protocol: &'a str },
+    Paths {
+        protocol: &'a str,
+    },
     /// `run F V`: the protocol in the file F is run on the valuations in the file V.
-    Run { protocol: &'a str, values: &'a str },
+    Run {
+        protocol: &'a str,
+        values: &'a str,
+    },
     /// `replay F V`: the same with the answers to its cuts that stand in the file V too.
-    Replay { protocol: &'a str, values: &'a str },
+    Replay {
+        protocol: &'a str,
+        values: &'a str,
+    },
+    /// `certify F C`: the certificate in the file C is checked for the protocol in the file F.
+    Certify {
+        protocol: &'a str,
+        certificate: &'a str,
+    },
 }
 
 /// The command of these words, those after the program's name, if they are one. The name of a
@@ -28,8 +45,8 @@ pub fn command_of(words: &Vec<String>) -> Option<Command<'_>>
         [word, protocol] if !protocol.is_empty() => {
             of_one_file(word.as_str(), protocol.as_str())
         }
-        [word, protocol, values] if !protocol.is_empty() && !values.is_empty() => {
-            of_two_files(word.as_str(), protocol.as_str(), values.as_str())
+        [word, protocol, second] if !protocol.is_empty() && !second.is_empty() => {
+            of_two_files(word.as_str(), protocol.as_str(), second.as_str())
         }
         _ => None,
     }
@@ -52,14 +69,26 @@ fn of_one_file<'a>(word: &str, protocol: &'a str) -> Option<Command<'a>>
 }
 
 // The command of that word on a protocol and a second file.
-fn of_two_files<'a>(word: &str, protocol: &'a str, values: &'a str) -> Option<Command<'a>>
-    ensures { option_map command_view result ≡ of_two_files word.now protocol.now values.now }
+fn of_two_files<'a>(word: &str, protocol: &'a str, second: &'a str) -> Option<Command<'a>>
+    ensures { option_map command_view result ≡ of_two_files word.now protocol.now second.now }
 {
     if word == "run" {
-        return Some(Command::Run { protocol, values });
+        return Some(Command::Run {
+            protocol,
+            values: second,
+        });
     }
     if word == "replay" {
-        return Some(Command::Replay { protocol, values });
+        return Some(Command::Replay {
+            protocol,
+            values: second,
+        });
+    }
+    if word == "certify" {
+        return Some(Command::Certify {
+            protocol,
+            certificate: second,
+        });
     }
     None
 }

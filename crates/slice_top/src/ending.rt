@@ -1,10 +1,12 @@
 // From the words to the status, with what is written on the way.
-ghost use Rattle.std.specs.Prelude.{◌≡◌, ◌≢◌, ◌⊎◌, ℕ, ◌<◌, ◌≤◌, List, length, map, None, OnErr, OnOk};
+ghost use Rattle.std.specs.Prelude.{◌≡◌, ◌≢◌, ◌⊎◌, ℕ, ◌<◌, ◌≤◌, List, length, map, None, Some, IfSome, OnErr, OnOk};
 ghost use Rattle.std.specs.String.{string_bytes};
 ghost use Rattle.slice_io.specs.Causes.{HasCause, Rose};
+ghost use Rattle.slice_io.specs.Files.{Files};
 ghost use Rattle.slice_io.specs.Told.{appended, FrontIsOut};
 ghost use Rattle.slice_report.specs.Refusals.{HasTexts};
 ghost use Rattle.slice_top.specs.Commands.{command_of};
+ghost use Rattle.slice_top.specs.Headline.{HoldsFairProgram, shown_file};
 ghost use Rattle.slice_top.specs.Turns.{ReadsFor};
 ghost use Rattle.slice_top.specs.Reports.{Reports, memory_line};
 ghost use Rattle.slice_top.specs.Statuses.{IsUsageOrFree};
@@ -114,15 +116,17 @@ fn finish<K: Sink>(sink: &mut K, bytes: &[u8], status: Status) -> Status
 /// `check F` writes one line with the counts of the core of the protocol in the file F. `print F` writes its
 /// canonical text, line by line. `paths F` writes a line for each goal of the core, when it is made, and one of their
 /// count. `run F V` runs it on the valuations in the file V, where each cut is answered by the least right answer,
-/// and `replay F V` with the answers that stand in V; each writes one line.
+/// and `replay F V` with the answers that stand in V; each writes one line. `certify F C` checks the certificate in the
+/// file C for it, line by line, and writes one line: that it is accepted, or what is wrong with it first.
 /// What stops them is told by one line too, the first of these: the words are no command (`Usage`); F can't be read
 /// (`ReadFault`) or has more than 1,048,576 bytes (`Refused`); its text has a fault, the first of which is told with
 /// its place (`Refused`); and, where more than `print` is asked for, the program breaks a rule, the first of which is
 /// told (`Refused`), or passes a limit of expansion (`Limit`); V can't be read, is too long, or has a fault of form
 /// (`Refused`); an answer is refused (`Refused`), or a number of the run, or of a goal, doesn't fit or a goal is one
-/// too many (`Limit`). `ReadFault` comes only where the shelf's count of faults rose, and `WriteFault` only where the
+/// too many (`Limit`); C can't be read, or a line of it that is read goes past 268,435,456 bytes (`Refused`), or a number
+/// of the check of its multipliers doesn't fit (`Limit`). `ReadFault` comes only where the shelf's count of faults rose, and `WriteFault` only where the
 /// sink's did; then a front of what was to be written is out. The sink gets line after line. The shelf is asked for V
-/// only once F's program keeps the rules and passes no limit, so a `ReadFault` names V only then. `Memory` may come
+/// or C only once F's program keeps the rules and passes no limit, so a `ReadFault` names it only then. `Memory` may come
 /// at any time, and writes a line of its own; of `paths` the lines of goals before a refusal, or before that line,
 /// are out.
 pub fn top<S: Shelf, K: Sink>(
@@ -131,7 +135,7 @@ pub fn top<S: Shelf, K: Sink>(
     shelf: &mut S,
     sink: &mut K,
 ) -> Status
-    // V is asked for only once F's program keeps the rules and passes no limit.
+    // A second file is asked for only once F's program keeps the rules and passes no limit.
     requires asked { (n : List ℕ) → ReadsFor (S.told shelf.old) (command_of (map string_bytes words.now.items)) n → S.CanAsk shelf.old n }
     ensures same { S.told shelf.new ≡ S.told shelf.old }
     ensures later { (S.faults shelf.old ≤ S.faults shelf.new) × (K.faults sink.old ≤ K.faults sink.new) }
@@ -147,6 +151,9 @@ pub fn top<S: Shelf, K: Sink>(
     // What is written, and the status: the answer over the files that the shelf tells, or over some bytes of each where it
     // tells none.
     ensures report { Reports (S.told shelf.old) (command_of (map string_bytes words.now.items)) (K.told sink.old) (K.told sink.new) result }
+
+    // The headline: where `certify F C` ends with Good, whoever wrote C, every run of the protocol in F is fair.
+    ensures headline { result ≡ Status.Good → (files : Files) → S.told shelf.old ≡ Some files → IfSome (shown_file (command_of (map string_bytes words.now.items))) (HoldsFairProgram files) }
 {
     match settle(alloc, shelf, sink, words) {
         Ending::Last(last) => finish(sink, &last.bytes, last.status),

@@ -35,7 +35,7 @@ pub fn answers_are_unique()
     parsings_are_unique();
 }
 
-/// Files and a command have an answer, whatever the files hold.
+/// Files and a command have an answer, whatever the files hold; of `certify` it isn't shown.
 pub fn answers_exist()
     ensures { AnswersExist }
 {}

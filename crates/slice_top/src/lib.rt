@@ -4,6 +4,7 @@
 //! answer to the command over the files, or what failed.
 #![tactic(auto)]
 
+mod certificates;
 pub mod command;
 mod cores;
 mod ending;

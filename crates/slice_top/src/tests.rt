@@ -1,9 +1,11 @@
 // The whole call over files and an output in memory: what is written, and with what status.
 ghost use Rattle.std.specs.Prelude.{◌<◌};
 
+mod certified;
 mod checked;
 mod expanded;
 mod files;
+mod neighbours;
 mod rows;
 
 use crate::{Status, top};

@@ -10,6 +10,7 @@ ghost use Rattle.slice_top.specs.Statuses.{IsWorked};
 ghost use Rattle.slice_top.specs.Stops.{StopsBy, StopsFor, command_view};
 ghost use Rattle.slice_top.specs.Turns.{HoldsProgram, IsSecondTurn, ReadsFor, RefusesSpelling};
 
+use crate::certificates::certify_core;
 use crate::command::Command;
 use crate::cores::read_core;
 use crate::files::read_file;
@@ -52,6 +53,10 @@ pub(crate) fn work<S: Shelf, K: Sink>(
         Command::Paths { protocol } => paths(alloc, shelf, sink, protocol),
         Command::Run { protocol, values } => run(alloc, shelf, protocol, values),
         Command::Replay { protocol, values } => replay(alloc, shelf, protocol, values),
+        Command::Certify {
+            protocol,
+            certificate,
+        } => certify(alloc, shelf, protocol, certificate),
     }
 }
 
@@ -214,6 +219,28 @@ fn replay_answers<S: Shelf>(
         Err(stop) => return Err(stop),
     };
     tell_answers(alloc, core, &bytes)
+}
+
+// The line of `certify`.
+fn certify<S: Shelf>(
+    alloc: Global,
+    shelf: &mut S,
+    protocol: &str,
+    certificate: &str,
+) -> Result<Output, Stop>
+    requires protocol { S.CanAsk shelf.old protocol.now }
+    requires certificate { IsSecondTurn (S.told shelf.old) protocol.now → S.CanAsk shelf.old certificate.now }
+    ensures same { S.told shelf.new ≡ S.told shelf.old }
+    ensures later { S.faults shelf.old ≤ S.faults shelf.new }
+    ensures worked { IfOk result (λ l. IsWorked l.status) }
+    ensures ok { IfOk result (λ l. IsAnswer (S.told shelf.old) (Some (words.certify protocol.now certificate.now)) (answer_of l.bytes.items l.status)) }
+    ensures err { IfErr result (StopsBy (λ r. IsAnswer (S.told shelf.old) (Some (words.certify protocol.now certificate.now)) (refused r)) (ReadsFor (S.told shelf.old) (Some (words.certify protocol.now certificate.now))) (Rose (S.faults shelf.old) (S.faults shelf.new))) }
+{
+    let core = match read_core(alloc, shelf, protocol) {
+        Ok(core) => core,
+        Err(stop) => return Err(stop),
+    };
+    certify_core(alloc, shelf, &core, certificate)
 }
 
 // What is told of the least run on the valuations in a file.

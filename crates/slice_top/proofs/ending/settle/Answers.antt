@@ -1,11 +1,9 @@
-use Rattle.std.proofs.Common.{◌≡◌, map, subst, Option, Some, None}
+use Rattle.std.proofs.Common.{◌≡◌, map, subst, Option, None}
 use Rattle.std.specs.String.{string_bytes}
 use Rattle.slice_io.specs.Causes.{Rose}
-use Rattle.slice_report.specs.declared.refusal.Refusal.TheVariants as refusal
 use Rattle.slice_top.specs.Commands.{Command, command_of}
 use Rattle.slice_top.specs.Settled.{Settled}
 use Rattle.slice_top.specs.Stops.{command_view}
-use Rattle.slice_top.specs.declared.ending.Ending.{Ending}
 use Rattle.slice_top.specs.declared.ending.Ending.TheVariants as ending
 use Rattle.slice_top.proofs.Endings.{worked_settled, refused_settled, unread_settled, usage_settled}
 use Rattle.slice_top.proofs.ending.settle.Goals as goal

@@ -1,9 +1,10 @@
-use Rattle.std.proofs.Common.{map, refl}
+use Rattle.std.proofs.Common.{map}
 use Rattle.std.specs.String.{string_bytes}
 use Rattle.slice_top.specs.Commands.{command_of}
 use Rattle.slice_top.specs.Reports.{memory_line}
 use Rattle.slice_top.specs.declared.status.Status.TheVariants as status
 use Rattle.slice_top.proofs.Endings.{last_report, starved_whole, unwritten_report, written_apart}
+use Rattle.slice_top.proofs.Good.{good_reports}
 use Rattle.slice_top.proofs.ending.top.Goals as goal
 
 pub returns-in-Last-clause-report : goal.returns-in-Last-clause-report
@@ -26,3 +27,15 @@ pub returns-in-Unwritten-clause-report : goal.returns-in-Unwritten-clause-report
 returns-in-Unwritten-clause-report g c =
     let h = rw c.in-Unwritten.is at c.settle.ensures.settled in
     unwritten_report (g.S.Shelf.told c.args.shelf.now) (command_of (map string_bytes c.args.words.now.items)) (g.K.Sink.told c.args.sink.now) (g.K.Sink.told c.settle.new.sink) h.0
+
+pub returns-in-Last-clause-headline : goal.returns-in-Last-clause-headline
+returns-in-Last-clause-headline g c =
+    good_reports (g.S.Shelf.told c.args.shelf.now) (command_of (map string_bytes c.args.words.now.items)) (g.K.Sink.told c.args.sink.now) (g.K.Sink.told c.finish.new.sink) c.finish.result (returns-in-Last-clause-report g c)
+
+pub returns-in-Starved-clause-headline : goal.returns-in-Starved-clause-headline
+returns-in-Starved-clause-headline g c =
+    good_reports (g.S.Shelf.told c.args.shelf.now) (command_of (map string_bytes c.args.words.now.items)) (g.K.Sink.told c.args.sink.now) (g.K.Sink.told c.finish-in-Starved.new.sink) c.finish-in-Starved.result (returns-in-Starved-clause-report g c)
+
+pub returns-in-Unwritten-clause-headline : goal.returns-in-Unwritten-clause-headline
+returns-in-Unwritten-clause-headline g c =
+    good_reports (g.S.Shelf.told c.args.shelf.now) (command_of (map string_bytes c.args.words.now.items)) (g.K.Sink.told c.args.sink.now) (g.K.Sink.told c.settle.new.sink) status.WriteFault (returns-in-Unwritten-clause-report g c)

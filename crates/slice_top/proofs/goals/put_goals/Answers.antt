@@ -1,4 +1,4 @@
-use Rattle.std.proofs.Common.{◌≡◌, ◌+◌, ℕ, ap, sym, subst, arith}
+use Rattle.std.proofs.Common.{◌≡◌, ℕ, ap, sym, subst, arith}
 use Rattle.slice_core.specs.Cores.{core_of}
 use Rattle.slice_io.specs.Causes.{Rose}
 use Rattle.slice_paths.specs.Events.{events_of}

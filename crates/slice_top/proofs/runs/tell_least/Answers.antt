@@ -1,4 +1,4 @@
-use Rattle.std.proofs.Common.{◌≡◌, ◌∙◌, subst, sym, refl}
+use Rattle.std.proofs.Common.{subst, sym, refl}
 use Rattle.slice_core.specs.Cores.{core_of}
 use Rattle.slice_run.specs.Outcomes.{told_of}
 use Rattle.slice_run.specs.Walk.{Least, outcome}

@@ -1,4 +1,4 @@
-use Rattle.std.proofs.Common.{◌≡◌, List, ℕ, Some}
+use Rattle.std.proofs.Common.{◌≡◌, Some}
 use Rattle.slice_io.specs.Causes.{Rose}
 use Rattle.slice_core.specs.Cores.{core_of}
 use Rattle.slice_top.specs.Commands as words

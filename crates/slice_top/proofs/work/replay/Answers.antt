@@ -1,4 +1,4 @@
-use Rattle.std.proofs.Common.{◌≡◌, ap, inl, inr, subst, Some, Option}
+use Rattle.std.proofs.Common.{◌≡◌, inl, inr, subst, Some, Option}
 use Rattle.slice_io.specs.Causes.{Rose}
 use Rattle.slice_io.specs.Files.{Files}
 use Rattle.slice_core.specs.Cores.{core_of}
@@ -6,7 +6,7 @@ use Rattle.slice_top.specs.Commands as words
 use Rattle.slice_top.specs.Turns.{RefusesProtocol, ReadsFor}
 use Rattle.slice_top.specs.Stops.{StopsBy}
 use Rattle.slice_top.specs.Answers.{IsAnswer, IsReplayAnswer, answer_of, refused}
-use Rattle.slice_top.proofs.Stages.{if_err_so, if_ok_so, rose_earlier, rose_later, stops_by, no_core, with_core}
+use Rattle.slice_top.proofs.Stages.{if_err_so, if_ok_so, rose_earlier, stops_by, no_core, with_core}
 use Rattle.slice_top.proofs.work.replay.Goals as goal
 
 -- the second file's turn has come

@@ -1,9 +1,9 @@
-use Rattle.std.proofs.Common.{◌≡◌, subst, List, ℕ, refl}
+use Rattle.std.proofs.Common.{◌≡◌, refl}
 use Rattle.slice_io.specs.Causes.{Rose}
 use Rattle.slice_core.specs.Cores.{core_of}
 use Rattle.slice_top.specs.FilesRead.{IsFileOf, RefusesFile}
 use Rattle.slice_top.specs.Stops.{StopsBy, StopsFor}
-use Rattle.slice_top.specs.Answers.{IsReplayAnswer, TellsGivenRun, stops, goes, answer_of, refused}
+use Rattle.slice_top.specs.Answers.{IsReplayAnswer, TellsGivenRun, stops, goes, refused}
 use Rattle.slice_top.proofs.Stages.{if_err_so, if_ok_so, stops_by, stops_from}
 use Rattle.slice_top.proofs.work.replay_answers.Goals as goal
 

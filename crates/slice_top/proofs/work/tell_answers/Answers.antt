@@ -1,4 +1,4 @@
-use Rattle.std.proofs.Common.{◌≡◌, subst, refl, List}
+use Rattle.std.proofs.Common.{subst, refl, List}
 use Rattle.slice_num.specs.declared.cut_answer.CutAnswer.{CutAnswer}
 use Rattle.slice_core.specs.Cores.{core_of}
 use Rattle.slice_run.specs.Walk.{outcome, Given}

@@ -1,8 +1,8 @@
-use Rattle.std.proofs.Common.{◌≡◌, ◌∙◌, sym, refl}
+use Rattle.std.proofs.Common.{refl}
 use Rattle.slice_core.specs.Cores.{core_of}
 use Rattle.slice_top.specs.Stops.{StopsFor}
 use Rattle.slice_top.specs.Values.{RefusesValues}
-use Rattle.slice_top.specs.Answers.{TellsLeastRun, stops, goes, answer_of, refused}
+use Rattle.slice_top.specs.Answers.{TellsLeastRun, stops, goes, refused}
 use Rattle.slice_top.proofs.Stages.{if_err_so, if_ok_so, stops_for}
 use Rattle.slice_top.proofs.work.tell_values.Goals as goal
 

@@ -1,4 +1,4 @@
-use Rattle.std.proofs.Common.{◌≡◌, ap, subst, sym, Some}
+use Rattle.std.proofs.Common.{ap, subst, sym, Some}
 use Rattle.slice_io.specs.Causes.{Rose}
 use Rattle.slice_top.specs.Commands as words
 use Rattle.slice_top.specs.Answers.{IsAnswer}
@@ -76,6 +76,23 @@ returns-in-Replay-clause-err g c =
     let k = Some (words.replay c.in-Replay.protocol.now c.in-Replay.values.now) in
     if_err_so _ _ (λ s h. subst (λ (k : words.Command). StopsIn (IsAnswer told (Some k)) (ReadsFor told (Some k)) shelf sink out out s) (sym (ap command_view c.in-Replay.is))
     (stops_at_once (IsAnswer told k) (ReadsFor told k) shelf sink out s h)) c.replay.result c.replay.ensures.err
+
+pub returns-in-Certify-clause-ok : goal.returns-in-Certify-clause-ok
+returns-in-Certify-clause-ok g c =
+    let told = g.S.Shelf.told c.args.shelf.now in
+    let out = g.K.Sink.told c.args.sink.now in
+    if_ok_so _ _ (λ l h. subst (λ (k : words.Command). Ends (IsAnswer told (Some k)) out out l.bytes.items l.status) (sym (ap command_view c.in-Certify.is))
+    (ends_at_once (IsAnswer told (Some (words.certify c.in-Certify.protocol.now c.in-Certify.certificate.now))) out l.bytes.items l.status h)) c.certify.result c.certify.ensures.ok
+
+pub returns-in-Certify-clause-err : goal.returns-in-Certify-clause-err
+returns-in-Certify-clause-err g c =
+    let told = g.S.Shelf.told c.args.shelf.now in
+    let out = g.K.Sink.told c.args.sink.now in
+    let shelf = Rose (g.S.Shelf.faults c.args.shelf.now) (g.S.Shelf.faults c.certify.new.shelf) in
+    let sink = Rose (g.K.Sink.faults c.args.sink.now) (g.K.Sink.faults c.args.sink.now) in
+    let k = Some (words.certify c.in-Certify.protocol.now c.in-Certify.certificate.now) in
+    if_err_so _ _ (λ s h. subst (λ (k : words.Command). StopsIn (IsAnswer told (Some k)) (ReadsFor told (Some k)) shelf sink out out s) (sym (ap command_view c.in-Certify.is))
+    (stops_at_once (IsAnswer told k) (ReadsFor told k) shelf sink out s h)) c.certify.result c.certify.ensures.err
 
 pub returns-in-Paths-clause-ok : goal.returns-in-Paths-clause-ok
 returns-in-Paths-clause-ok g c =
