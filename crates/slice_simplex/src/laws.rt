@@ -40,6 +40,11 @@ pub fn an_answer_is_one()
     ensures { (rows : List LinearRow) (limit : ℕ) (a b : ProverAnswer) → IsProverAnswer rows limit a → IsProverAnswer rows limit b → a ≡ b }
 {}
 
+/// Rows, whatever their widths, have an answer of the prover for every limit, want of memory aside.
+pub fn an_answer_exists()
+    ensures { (rows : List LinearRow) (limit : ℕ) → (a : ProverAnswer) × IsProverAnswer rows limit a }
+{}
+
 /// No set of basic columns comes twice in a pivot run.
 pub fn no_basis_comes_twice()
     ensures { (rows : List LinearRow) (t : Table) (before : List Table) → IsPivotRun rows (t ∷ before) → AllDiffer (t ∷ before) }
