@@ -6,5 +6,9 @@ pub mod OneVerdict
 pub mod Passing
 pub mod ReadLines
 pub mod RowsAt
+pub mod SomeLine
+pub mod SomeStop
+pub mod SomeVerdict
 pub mod Standing
 pub mod Stopping
+pub mod Telling

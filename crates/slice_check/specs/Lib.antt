@@ -1,4 +1,5 @@
 pub mod Certificate
+pub mod Completeness
 pub mod Faults
 pub mod Steps
 pub mod Verdicts
