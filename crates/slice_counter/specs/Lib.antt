@@ -1,0 +1,6 @@
+pub mod Counter
+pub mod CounterLine
+pub mod Heights
+pub mod Marks
+pub mod ReplayLaw
+pub mod Walks
