@@ -1,5 +1,5 @@
 -- Where no goal of a program's core has rows with a solution, every run of the program is fair.
-use Rattle.std.proofs.Common.{◌≡◌, ℕ, List, length, get_or, subst}
+use Rattle.std.proofs.Common.{◌≡◌, ◌∙◌, ℕ, ◌++◌, List, [], length, get_or, refl, ap, sym, subst}
 use Rattle.std.specs.List.{All}
 use Rattle.slice_num.specs.Valuation.{Valuation, IsValuationList}
 use Rattle.slice_num.specs.declared.cut_answer.CutAnswer.{CutAnswer}
@@ -19,11 +19,12 @@ use Rattle.slice_paths.specs.Goals.{Goal, goals}
 use Rattle.slice_paths.proofs.Solutions.{refuted_means_fair}
 use Rattle.slice_expand.specs.Expansion.{core_of}
 use Rattle.slice_expand.specs.Kept.{without_trace}
-use Rattle.slice_run.specs.RunLaws.{Tells, run_on as core_run_on}
-use Rattle.slice_run.specs.Walk.{Told}
-use Rattle.slice_run.proofs.LeastRun.{least_runs_exist}
+use Rattle.slice_expand.specs.ProgramRun.{Few}
+use Rattle.slice_run.specs.RunLaws.{run_on as core_run_on}
+use Rattle.slice_run.proofs.Follows.{IsOver}
 use Rattle.slice_top.specs.Headline.{IsFairEnd, IsDoneEnd, EveryRunIsFair, run_on}
 use Rattle.slice_top.specs.Laws.{UnsolvedGoalsMeanFairRuns, RefutedGoalsMeanFairRuns}
+use Rattle.slice_top.proofs.GoingOn.{CanEnd, core_goes_on, IsUnrefused, core_unrefused}
 use Rattle.slice_top.proofs.ToldRuns.{core_formed, kept}
 
 -- a core's run that is fair and divides the cake ends the program's run so
@@ -35,13 +36,21 @@ fair_end vs n l (core.Few query) q fair division = tt
 fair_end vs n l (core.Bad query) q fair division = tt
 fair_end vs n l core.Many q fair division = tt
 
--- a run that is told and fair is done
-done_end : (n : ℕ) (vs : List Valuation) (e : Ending) (t : Told) → Tells e t → IsFair n (worth_of vs) e → IsDoneEnd (without_trace e)
-done_end n vs (core.Done s) t told fair = tt
-done_end n vs (core.Stuck at s) t told fair = absurd fair
-done_end n vs (core.Few query) t told fair = absurd told
-done_end n vs (core.Bad query) t told fair = absurd told
-done_end n vs core.Many t told fair = absurd told
+-- a run that is over and fair is done
+done_end : (n : ℕ) (vs : List Valuation) (e : Ending) → IsOver e → IsFair n (worth_of vs) e → IsDoneEnd (without_trace e)
+done_end n vs (core.Done s) over fair = tt
+done_end n vs (core.Stuck at s) over fair = absurd fair
+done_end n vs (core.Few query) over fair = absurd over
+done_end n vs (core.Bad query) over fair = absurd over
+done_end n vs core.Many over fair = absurd over
+
+-- a core's run that wants an answer can be brought to its end
+few_ends : (e : Ending) (goes : List CutAnswer → Ending) (query : ℕ) → without_trace e ≡ Few query → CanEnd e goes → (more : List CutAnswer) × IsOver (goes more)
+few_ends (core.Done s) goes query few can = cc
+few_ends (core.Stuck at s) goes query few can = cc
+few_ends (core.Few other) goes query few can = can
+few_ends (core.Bad other) goes query few can = cc
+few_ends core.Many goes query few can = cc
 
 module _ (p : PlainProgram) (formed : IsWellFormed (core_of p)) (none : All (λ (g : Goal). HaveNoSolution g.rows) (goals (core_of p))) where
   is_fair : (vs : List Valuation) → IsValuationList p.agents.value vs → (ys : List CutAnswer) → IsFair (core_of p).agents (worth_of vs) (core_run_on vs (core_of p) ys)
@@ -52,14 +61,26 @@ module _ (p : PlainProgram) (formed : IsWellFormed (core_of p)) (none : All (λ 
       subst (IsFairEnd vs) (kept vs p ys)
       (fair_end vs (core_of p).agents (length_of vs) (core_run_on vs (core_of p) ys) list.one_each (is_fair vs list ys) (runs_divide (worth_of vs) (core_of p) (length_of vs) ys formed.agents_there))
 
+  run_goes_on : (vs : List Valuation) → IsValuationList p.agents.value vs → (ys : List CutAnswer) (query : ℕ) → run_on vs p ys ≡ Few query → (more : List CutAnswer) × IsDoneEnd (run_on vs p (ys ++ more))
+  run_goes_on vs list ys query few =
+      let core_run = λ (zs : List CutAnswer). core_run_on vs (core_of p) zs in
+      let m = few_ends (core_run ys) (λ more. core_run (ys ++ more)) query (kept vs p ys ∙ few) (core_goes_on vs (core_of p) formed list ys) in
+      let zs = ys ++ m.0 in
+      (m.0, subst IsDoneEnd (kept vs p zs) (done_end (core_of p).agents vs (core_run zs) m.1 (is_fair vs list zs)))
+
+  -- the run that goes on from no answers
   some_run : (vs : List Valuation) → IsValuationList p.agents.value vs → (ys : List CutAnswer) × IsDoneEnd (run_on vs p ys)
-  some_run vs list =
-      let r = least_runs_exist vs (core_of p) formed list in
-      let ys = r.least.answers in
-      (ys, subst IsDoneEnd (kept vs p ys) (done_end (core_of p).agents vs (core_run_on vs (core_of p) ys) r.told r.least.told (is_fair vs list ys)))
+  some_run vs list = by (core_run_on vs (core_of p) []) refl (core_unrefused vs (core_of p))
+    where
+      by : (e : Ending) → core_run_on vs (core_of p) [] ≡ e → IsUnrefused e → (ys : List CutAnswer) × IsDoneEnd (run_on vs p ys)
+      by (core.Done s) q h = ([], subst IsDoneEnd (ap without_trace (sym q) ∙ kept vs p []) tt)
+      by (core.Stuck at s) q h = absurd (subst (IsFairEnd vs) (sym (kept vs p []) ∙ ap without_trace q) (every_run vs list []))
+      by (core.Few query) q h = run_goes_on vs list [] query (sym (kept vs p []) ∙ ap without_trace q)
+      by (core.Bad query) q h = absurd h
+      by core.Many q h = absurd h
 
   pub every_fair : EveryRunIsFair p
-  every_fair = record { fair = every_run; some = some_run }
+  every_fair = record { fair = every_run; some = some_run; on = run_goes_on }
 
 pub unsolved_fair : UnsolvedGoalsMeanFairRuns
 unsolved_fair text p c is made none =

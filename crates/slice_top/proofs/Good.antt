@@ -1,28 +1,34 @@
--- Where `certify` ends well, every run of the protocol in its file is fair.
-use Rattle.std.proofs.Common.{◌≡◌, ◌∙◌, ap, sym, subst, ℕ, zero, suc, List, [], ◌∷◌, ◌++◌, append-nil, Option, Some, None, refl, arith}
-use Rattle.std.specs.Prelude.{IfSome, Bool, true, false, if◌then◌else◌}
+-- Where `verify`, `certify` or `demo` ends well, every run of its protocol is fair.
+use Rattle.std.proofs.Common.{◌≡◌, ◌∙◌, ap, sym, subst, ℕ, zero, suc, ◌+◌, List, [], ◌∷◌, ◌++◌, length, append-nil, Option, Some, None, refl, arith}
+use Rattle.std.specs.Prelude.{ℤ, IfSome, Bool, true, false, if◌then◌else◌}
 use Rattle.std.specs.List.{All}
 use Rattle.slice_io.specs.Files.{Files, file_of, IsFile}
 use Rattle.slice_ast.specs.Code.{PlainProgram}
 use Rattle.slice_parse.specs.Laws.{IsProgramOf}
 use Rattle.slice_linear.specs.Rows.{HaveNoSolution}
+use Rattle.slice_linear.proofs.Motzkin.{refuted_rows_have_no_solution}
 use Rattle.slice_core.specs.Tree.{Core}
 use Rattle.slice_paths.specs.Events.{events_of}
 use Rattle.slice_paths.specs.Goals.{Goal, goals}
-use Rattle.slice_paths.specs.Coming.{goals_ahead, fault_ahead}
+use Rattle.slice_paths.specs.Coming.{AreGoals, goals_ahead}
+use Rattle.slice_paths.specs.declared.goal.GoalFault.{GoalFault}
+use Rattle.slice_paths.proofs.GoodRows.{coming_goals_fit}
+use Rattle.slice_simplex.specs.ProverAnswer.{RefutedBy, SolvedBy, AtLimit, Unfit}
+use Rattle.slice_simplex.proofs.EndFacts.{multipliers_refute}
 use Rattle.slice_paths.proofs.ComingLaws.{goals_come_first}
-use Rattle.slice_check.specs.Certificate.{claim_on, Accepts, NoneSolved}
+use Rattle.slice_check.specs.Certificate.{claim_on, NoneSolved}
 use Rattle.slice_check.specs.declared.answer.CertAnswer.{CertAnswer}
 use Rattle.slice_check.specs.declared.answer.CertAnswer.TheVariants.{Accepted, Rejected}
+use Rattle.slice_gen.specs.Rounds.{rounds_text}
 use Rattle.slice_report.specs.declared.refusal.Refusal.{Refusal}
 use Rattle.slice_report.specs.declared.refusal.Refusal.TheVariants.{Usage, ReadFault}
-use Rattle.slice_top.specs.Answers.{Answer, Stage, stops, goes, refused, WithCore, IsAnswer, IsCertifyAnswer}
+use Rattle.slice_report.specs.declared.refusal.Refusal.TheVariants as refusal
+use Rattle.slice_top.specs.Answers.{Answer, Stage, stops, goes, refused, OfText, WithCore, IsAnswer, Counters, low, high, Closes, DecidesAll, IsVerifyAnswer, IsCertifyAnswer, AfterReport, IsDemoAnswer}
 use Rattle.slice_top.specs.Certificates.{ChecksFile, checked_status}
-use Rattle.slice_top.specs.Commands.{Command, check, print, paths, run, replay, certify}
+use Rattle.slice_top.specs.Commands.{Command, check, print, paths, verify, run, replay, certify, demo}
 use Rattle.slice_top.specs.Cores.{IsCoreOf, RefusesCore}
-use Rattle.slice_top.specs.Headline.{EveryRunIsFair, HoldsFairProgram, shown_file}
+use Rattle.slice_top.specs.Headline.{EveryRunIsFair, HoldsFairProgram, IsFairText, made_rounds, shown_file}
 use Rattle.slice_top.specs.Reports.{Whole, answered, unread, starved, Report, whole, cut, Reports}
-use Rattle.slice_top.specs.Programs.{RefusesText}
 use Rattle.slice_top.specs.Statuses.{is_limit, refused_status}
 use Rattle.slice_top.specs.declared.status.Status.{Status}
 use Rattle.slice_top.specs.declared.status.Status.TheVariants as status
@@ -36,14 +42,16 @@ none_solved [] h k d l = absurd (omega (arith, l))
 none_solved (g ∷ gs) h zero d l = h.0
 none_solved (g ∷ gs) h (suc k) d l = none_solved gs h.1 k d (omega (arith, l))
 
--- a certificate of all goals of the core
-pub accepted_fair : (text : List ℕ) (p : PlainProgram) (core : Core) → IsProgramOf text p → IsCoreOf p core → (bytes : List ℕ) → Accepts (claim_on core) bytes → fault_ahead (events_of core) 0 ≡ None → EveryRunIsFair p
-accepted_fair text p core is made bytes accepts no_fault =
+-- none of the goals that a stream gives of the core has rows with a solution, and it gives all
+abbrev HasNoSolvedGoal : Core → Type 0
+HasNoSolvedGoal core = NoneSolved (claim_on core).goals × ((claim_on core).fault ≡ None)
+
+pub unsolved_core_fair : (text : List ℕ) (p : PlainProgram) (core : Core) → IsProgramOf text p → IsCoreOf p core → HasNoSolvedGoal core → EveryRunIsFair p
+unsolved_core_fair text p core is made none =
     let first = goals_come_first core in
-    let made_goals = goals_ahead (events_of core) 0 in
-    let all : goals core ≡ made_goals = first.are ∙ ap (λ gs. made_goals ++ gs) (first.all no_fault) ∙ append-nil made_goals in
-    unsolved_fair text p core is made
-    (subst (λ (gs : List Goal). All (λ (g : Goal). HaveNoSolution g.rows) gs) (sym all) (none_solved made_goals (certified_goals_have_no_solution (claim_on core) bytes accepts)))
+    let given = goals_ahead (events_of core) 0 in
+    let all : goals core ≡ given = first.are ∙ ap (λ gs. given ++ gs) (first.all none.1) ∙ append-nil given in
+    unsolved_fair text p core is made (subst (λ (gs : List Goal). All (λ (g : Goal). HaveNoSolution g.rows) gs) (sym all) (none_solved given none.0))
 
 -- ---- answers
 
@@ -51,65 +59,117 @@ limit_not_good : (b : Bool) → (if b then status.Limit else status.Refused) ≡
 limit_not_good true e = cc
 limit_not_good false e = cc
 
-refusal_not_good : (r : Refusal) → refused_status r ≡ status.Good → ⊥
+pub refusal_not_good : (r : Refusal) → refused_status r ≡ status.Good → ⊥
 refusal_not_good Usage e = cc
 refusal_not_good (ReadFault file) e = cc
 refusal_not_good r e = limit_not_good (is_limit r) e
 
-refused_not_good : (r : Refusal) (a : Answer) → a ≡ refused r → a.status ≡ status.Good → ⊥
+pub refused_not_good : (r : Refusal) (a : Answer) → a ≡ refused r → a.status ≡ status.Good → ⊥
 refused_not_good r a e good = refusal_not_good r (sym (ap (λ (x : Answer). x.status) e) ∙ good)
 
-there_is : (o : Option (List ℕ)) (bytes : List ℕ) → IsFile (Some o) bytes → o ≡ Some bytes
+pub there_is : (o : Option (List ℕ)) (bytes : List ℕ) → IsFile (Some o) bytes → o ≡ Some bytes
 there_is None bytes h = absurd h
 there_is (Some other) bytes h = ap Some (sym h)
 
-module _ (files : Files) where
-  checked : (c : List ℕ) (core : Core) (x : CertAnswer) (o : Option (List ℕ)) → file_of c files ≡ o → ChecksFile (Some files) c core x → checked_status x ≡ status.Good
-      → (bytes : List ℕ) × (Accepts (claim_on core) bytes × (fault_ahead (events_of core) 0 ≡ None))
-  checked c core x None e h good = absurd (h.there (ap Some e))
-  checked c core (Accepted n) (Some bytes) e h good = let says = h.says bytes (ap Some e) in (bytes, (says.0, says.1))
-  checked c core (Rejected r) (Some bytes) e h good = absurd cc
+-- ---- certificates
 
-  of_core : (f c text : List ℕ) (p : PlainProgram) (core : Core) (a : Answer) → file_of f files ≡ Some text → IsProgramOf text p → IsCoreOf p core → IsCertifyAnswer (Some files) c core a → a.status ≡ status.Good
-      → HoldsFairProgram files f
-  of_core f c text p core a there is made (stops r h e) good = absurd (refused_not_good r a e good)
-  of_core f c text p core a there is made (goes x h e) good =
-      let says = checked c core x (file_of c files) refl h (sym (ap (λ (b : Answer). b.status) e) ∙ good) in
-      record { text = text; there = there; program = p; spelled = is.spelled; rules = made.rules; every = accepted_fair text p core is made says.0 says.1.0 says.1.1 }
+-- one that is accepted
+accepted : (files : Files) (c : List ℕ) (core : Core) (x : CertAnswer) (o : Option (List ℕ)) → file_of c files ≡ o → ChecksFile (Some files) c core x → checked_status x ≡ status.Good → HasNoSolvedGoal core
+accepted files c core x None e h good = absurd (h.there (ap Some e))
+accepted files c core (Accepted n) (Some bytes) e h good =
+    let says = h.says bytes (ap Some e) in (certified_goals_have_no_solution (claim_on core) bytes says.0, says.1)
+accepted files c core (Rejected r) (Some bytes) e h good = absurd cc
 
-  of_program : (f c text : List ℕ) (p : PlainProgram) (a : Answer) → file_of f files ≡ Some text → IsProgramOf text p → Stage (RefusesCore p) (IsCoreOf p) (IsCertifyAnswer (Some files) c) a → a.status ≡ status.Good
-      → HoldsFairProgram files f
-  of_program f c text p a there is (stops r h e) good = absurd (refused_not_good r a e good)
-  of_program f c text p a there is (goes core made next) good = of_core f c text p core a there is made next good
+certified : (files : Files) (c : List ℕ) (core : Core) (a : Answer) → IsCertifyAnswer (Some files) c core a → a.status ≡ status.Good → HasNoSolvedGoal core
+certified files c core a (stops r h e) good = absurd (refused_not_good r a e good)
+certified files c core a (goes x h e) good = accepted files c core x (file_of c files) refl h (sym (ap (λ (b : Answer). b.status) e) ∙ good)
 
-  of_text : (f c text : List ℕ) (a : Answer) → file_of f files ≡ Some text → Stage (RefusesText text) (IsProgramOf text) (λ p. Stage (RefusesCore p) (IsCoreOf p) (IsCertifyAnswer (Some files) c)) a → a.status ≡ status.Good
-      → HoldsFairProgram files f
-  of_text f c text a there (stops r h e) good = absurd (refused_not_good r a e good)
-  of_text f c text a there (goes p is next) good = of_program f c text p a there is next good
+-- ---- decisions
 
-  of_file : (f c : List ℕ) (a : Answer) → WithCore (Some files) f (IsCertifyAnswer (Some files) c) a → a.status ≡ status.Good → HoldsFairProgram files f
-  of_file f c a (stops r h e) good = absurd (refused_not_good r a e good)
-  of_file f c a (goes text file next) good = of_text f c text a (there_is (file_of f files) text file.there) next good
+not_countered : (core : Core) (g : Goal) (xs : List ℤ) (a : Answer) → Counters core g xs a → a.status ≡ status.Good → ⊥
+not_countered core g xs a (low l e) good = let bad : status.Negative ≡ status.Good = sym (ap (λ (b : Answer). b.status) e) ∙ good in cc
+not_countered core g xs a (high agent atom l e) good = refused_not_good (refusal.HeightLimit g.number agent atom) a e good
 
-  good_answer : (k : Option Command) (a : Answer) → IsAnswer (Some files) k a → a.status ≡ status.Good → IfSome (shown_file k) (HoldsFairProgram files)
-  good_answer None a h good = tt
-  good_answer (Some (check f)) a h good = tt
-  good_answer (Some (print f)) a h good = tt
-  good_answer (Some (paths f)) a h good = tt
-  good_answer (Some (run f v)) a h good = tt
-  good_answer (Some (replay f v)) a h good = tt
-  good_answer (Some (certify f c)) a h good = of_file f c a h good
+closed : (n : ℕ) (f : Option GoalFault) (a : Answer) → Closes n f a → a.status ≡ status.Good → f ≡ None
+closed n None a h good = refl
+closed n (Some f) a h good = absurd (refused_not_good h.0 a h.1.1 good)
 
-  good_whole : (k : Option Command) (bytes : List ℕ) (s : Status) → Whole (Some files) k bytes s → s ≡ status.Good → IfSome (shown_file k) (HoldsFairProgram files)
-  good_whole k bytes s (answered a is e t) good = good_answer k a is (sym e ∙ good)
+all_refuted : (core : Core) (n k : ℕ) (f : Option GoalFault) (gs : List Goal) (a : Answer) → AreGoals k gs → DecidesAll core n f gs a → a.status ≡ status.Good → NoneSolved gs × (f ≡ None)
+all_refuted core n k f [] a fit d good = (tt, closed n f a d good)
+all_refuted core n k f (g ∷ gs) a fit (RefutedBy m, (is, (b, (d, e)))) good =
+    let rest = all_refuted core n (k + 1) f gs b fit.3 d (sym (ap (λ (x : Answer). x.status) e) ∙ good) in
+    ((refuted_rows_have_no_solution g.rows m (multipliers_refute g.rows m fit.2 is.0), rest.0), rest.1)
+all_refuted core n k f (g ∷ gs) a fit (SolvedBy xs, (is, h)) good = absurd (not_countered core g xs a h good)
+all_refuted core n k f (g ∷ gs) a fit (AtLimit, (is, e)) good = absurd (refused_not_good (refusal.PivotLimit g.number) a e good)
+all_refuted core n k f (g ∷ gs) a fit (Unfit pivots row col, (is, e)) good = absurd (refused_not_good (refusal.ProverOverflow g.number pivots row col) a e good)
+
+pub verified : (core : Core) (a : Answer) → IsVerifyAnswer core a → a.status ≡ status.Good → HasNoSolvedGoal core
+verified core a (b, (d, e)) good =
+    all_refuted core (length (claim_on core).goals) 0 (claim_on core).fault (claim_on core).goals b (coming_goals_fit core) d (sym (ap (λ (x : Answer). x.status) e) ∙ good)
+
+-- ---- a report that is made and checked
+
+after_good : (core : Core) (report : List ℕ) (s : Status) (a : Answer) → AfterReport core report s a → a.status ≡ status.Good → s ≡ status.Good
+after_good core report status.Good a h good = refl
+after_good core report s a e good = sym (ap (λ (x : Answer). x.status) e) ∙ good
+
+checked : (core : Core) (a : Answer) → IsDemoAnswer core a → a.status ≡ status.Good → HasNoSolvedGoal core
+checked core a (report, (is, after)) good = verified core report is (after_good core report.text report.status a after good)
+
+-- ---- stage by stage
+
+module _ (Next : Core → Answer → Type 0) (shows : (core : Core) (a : Answer) → Next core a → a.status ≡ status.Good → HasNoSolvedGoal core) where
+  of_program : (text : List ℕ) (p : PlainProgram) (a : Answer) → IsProgramOf text p → Stage (RefusesCore p) (IsCoreOf p) Next a → a.status ≡ status.Good → IsFairText text
+  of_program text p a is (stops r h e) good = absurd (refused_not_good r a e good)
+  of_program text p a is (goes core made next) good = record { program = p; spelled = is.spelled; rules = made.rules; every = unsolved_core_fair text p core is made (shows core a next good) }
+
+  of_text : (text : List ℕ) (a : Answer) → OfText text Next a → a.status ≡ status.Good → IsFairText text
+  of_text text a (stops r h e) good = absurd (refused_not_good r a e good)
+  of_text text a (goes p is next) good = of_program text p a is next good
+
+  of_file : (files : Files) (f : List ℕ) (a : Answer) → WithCore (Some files) f Next a → a.status ≡ status.Good → HoldsFairProgram files f
+  of_file files f a (stops r h e) good = absurd (refused_not_good r a e good)
+  of_file files f a (goes text file next) good = record { text = text; there = there_is (file_of f files) text file.there; fair = of_text text a next good }
+
+module _ (told : Option Files) (Shown : Option Command → Type 0) (shown : (k : Option Command) (a : Answer) → IsAnswer told k a → a.status ≡ status.Good → Shown k) where
+  good_whole : (k : Option Command) (bytes : List ℕ) (s : Status) → Whole told k bytes s → s ≡ status.Good → Shown k
+  good_whole k bytes s (answered a is e t) good = shown k a is (sym e ∙ good)
   good_whole k bytes s (unread file turn e t) good = let bad : status.ReadFault ≡ status.Good = sym e ∙ good in absurd cc
   good_whole k bytes s (starved out is e t) good = let bad : status.Memory ≡ status.Good = sym e ∙ good in absurd cc
 
-  good_report : (k : Option Command) (bytes : List ℕ) (s : Status) → Report (Some files) k bytes s → s ≡ status.Good → IfSome (shown_file k) (HoldsFairProgram files)
+  good_report : (k : Option Command) (bytes : List ℕ) (s : Status) → Report told k bytes s → s ≡ status.Good → Shown k
   good_report k bytes s (whole w) good = good_whole k bytes s w good
   good_report k bytes s (cut all other w count t e) good = let bad : status.WriteFault ≡ status.Good = sym e ∙ good in absurd cc
 
--- the report of a command that ends well
+-- ---- a command that ends well
+
+good_file : (files : Files) (k : Option Command) (a : Answer) → IsAnswer (Some files) k a → a.status ≡ status.Good → IfSome (shown_file k) (HoldsFairProgram files)
+good_file files None a h good = tt
+good_file files (Some (check f)) a h good = tt
+good_file files (Some (print f)) a h good = tt
+good_file files (Some (paths f)) a h good = tt
+good_file files (Some (verify f)) a h good = of_file IsVerifyAnswer verified files f a h good
+good_file files (Some (run f v)) a h good = tt
+good_file files (Some (replay f v)) a h good = tt
+good_file files (Some (certify f c)) a h good = of_file (IsCertifyAnswer (Some files) c) (certified files c) files f a h good
+good_file files (Some (demo n)) a h good = tt
+
+good_rounds : (told : Option Files) (k : Option Command) (a : Answer) → IsAnswer told k a → a.status ≡ status.Good → IfSome (made_rounds k) (λ n. IsFairText (rounds_text n))
+good_rounds told None a h good = tt
+good_rounds told (Some (check f)) a h good = tt
+good_rounds told (Some (print f)) a h good = tt
+good_rounds told (Some (paths f)) a h good = tt
+good_rounds told (Some (verify f)) a h good = tt
+good_rounds told (Some (run f v)) a h good = tt
+good_rounds told (Some (replay f v)) a h good = tt
+good_rounds told (Some (certify f c)) a h good = tt
+good_rounds told (Some (demo n)) a h good = of_text IsDemoAnswer checked (rounds_text n) a h good
+
+-- its report
 pub good_reports : (told : Option Files) (k : Option Command) (before after : Option (List ℕ)) (s : Status) → Reports told k before after s → s ≡ status.Good → (files : Files) → told ≡ Some files
     → IfSome (shown_file k) (HoldsFairProgram files)
-good_reports told k before after s h good files e = good_report files k h.bytes s (subst (λ (t : Option Files). Report t k h.bytes s) e h.is) good
+good_reports told k before after s h good files e =
+    good_report (Some files) (λ c. IfSome (shown_file c) (HoldsFairProgram files)) (good_file files) k h.bytes s (subst (λ (t : Option Files). Report t k h.bytes s) e h.is) good
+
+pub good_demos : (told : Option Files) (k : Option Command) (before after : Option (List ℕ)) (s : Status) → Reports told k before after s → s ≡ status.Good → IfSome (made_rounds k) (λ n. IsFairText (rounds_text n))
+good_demos told k before after s h good = good_report told (λ c. IfSome (made_rounds c) (λ n. IsFairText (rounds_text n))) (good_rounds told) k h.bytes s h.is good

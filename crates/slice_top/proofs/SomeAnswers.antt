@@ -37,8 +37,8 @@ use Rattle.slice_paths.specs.Events.{events_of}
 use Rattle.slice_report.specs.CoreReport.{core_json}
 use Rattle.slice_report.specs.declared.refusal.Refusal.{Refusal}
 use Rattle.slice_report.specs.declared.refusal.Refusal.TheVariants as refusal
-use Rattle.slice_top.specs.Answers.{Answer, answer_of, one_line, refused, Stage, stops, goes, WithFile, WithProgram, WithCore, IsPrintAnswer, IsCheckAnswer, IsPathsAnswer, goals_answer, IsRunAnswer, IsReplayAnswer, TellsLeastRun, TellsGivenRun, IsOutcome}
-use Rattle.slice_top.specs.Commands.{check, print, paths, run, replay, certify}
+use Rattle.slice_top.specs.Answers.{Answer, answer_of, one_line, refused, Stage, stops, goes, WithFile, WithProgram, WithCore, IsPrintAnswer, IsCheckAnswer, IsPathsAnswer, goals_answer, IsVerifyAnswer, after_text, IsRunAnswer, IsReplayAnswer, IsCertifyAnswer, TellsLeastRun, TellsGivenRun, IsOutcome}
+use Rattle.slice_top.specs.Commands.{check, print, paths, verify, run, replay, certify, demo}
 use Rattle.slice_top.specs.Cores.{RefusesCore, IsCoreOf}
 use Rattle.slice_top.specs.FilesRead.{IsFileOf, RefusesFile, limit}
 use Rattle.slice_top.specs.Laws.{AnswersExist}
@@ -46,6 +46,18 @@ use Rattle.slice_top.specs.Programs.{RefusesText}
 use Rattle.slice_top.specs.Runs.{run_refusal, told_status}
 use Rattle.slice_top.specs.Values.{RefusesValues, RefusesReplay, values_refusal}
 use Rattle.slice_top.specs.declared.status.Status.TheVariants as status
+use Rattle.slice_cert.specs.CertLines.{line_text}
+use Rattle.slice_cert.specs.declared.line.Line.TheVariants.{Header}
+use Rattle.slice_check.specs.Certificate.{claim_on}
+use Rattle.slice_check.specs.Faults.{Fails, IsUnread}
+use Rattle.slice_check.specs.Faults.{IsAnswer as CheckAnswer}
+use Rattle.slice_check.specs.declared.answer.CertAnswer.{CertAnswer}
+use Rattle.slice_check.specs.declared.answer.CertFault.{CertFault}
+use Rattle.slice_check.specs.declared.answer.CertFault.TheVariants as cert_fault
+use Rattle.slice_check.proofs.SomeStop.{files_decided}
+use Rattle.slice_report.specs.CertifyReport.{certify_json}
+use Rattle.slice_top.specs.Certificates.{SaysOfFile, ChecksFile, RefusesCertificate, missing, given_up, checker_refusal, checked_status}
+use Rattle.slice_top.proofs.SomeDecisions.{some_end}
 use Rattle.slice_top.proofs.FileFaults.{replay_found, fault_not_memory, replay_fault_not_memory}
 use Rattle.slice_top.proofs.ToldRuns.{least_said, given_said, some_agent}
 use Rattle.slice_top.proofs.UniqueAnswers.{parsed_of}
@@ -195,15 +207,52 @@ some_given text bytes p c is made =
     (λ file said. some_outcome (outcome file.0 c (Given file.1)) (outcome file.0 c (Given file.1)) refl
     (λ f e m. subst (IsTold file.0 _) (e ∙ ap Refused m) (given_said text bytes p c file.0 file.1 is made said)))
 
+-- ---- certificates
+
+module _ (files : Files) (name : List ℕ) (core : Core) where
+  checker_refused : (f : CertFault) → (IsUnread f → ⊥) → (r : Refusal) × (checker_refusal name f ≡ Some r)
+  checker_refused cert_fault.ReadFault h = absurd (h tt)
+  checker_refused cert_fault.TooLong h = (refusal.TooLong name, refl)
+  checker_refused cert_fault.GoalLimit h = (refusal.GoalLimit, refl)
+  checker_refused (cert_fault.FormOverflow goal) h = (refusal.FormOverflow goal, refl)
+  checker_refused (cert_fault.Overflow goal unknown) h = (refusal.CheckOverflow goal unknown, refl)
+  checker_refused cert_fault.Memory h = absurd (h tt)
+
+  -- what is said of its bytes is said of the file
+  pub of_file : (bytes : List ℕ) (Says : List ℕ → Type 0) → file_of name files ≡ Some bytes → Says bytes → SaysOfFile (Some files) name Says
+  of_file bytes Says e h = record {
+    there = λ none. let bad : Some (Some bytes) ≡ Some None = sym (ap Some e) ∙ none in cc;
+    says = λ others told. let same : Some (Some bytes) ≡ Some (Some others) = sym (ap Some e) ∙ told in let one : bytes ≡ others = cc in subst Says one h;
+  }
+
+  certificate_found : (o : Option (List ℕ)) → file_of name files ≡ o → ((r : Refusal) × RefusesCertificate (Some files) name core r) ⊎ ((x : CertAnswer) × ChecksFile (Some files) name core x)
+  certificate_found None e = inl (refusal.ReadFault name, missing (ap Some e) refl)
+  certificate_found (Some bytes) e =
+      ⊎_elim
+      (λ a. inr (a.0, of_file bytes (λ xs. CheckAnswer (claim_on core) xs a.0) e a.1))
+      (λ f. let r = checker_refused f.0 f.1.0 in inl (r.0, given_up f.0 r.1 (of_file bytes (λ xs. Fails (claim_on core) xs f.0) e f.1.1)))
+      (files_decided core bytes)
+
+  some_certified : HasAnswer (IsCertifyAnswer (Some files) name core)
+  some_certified =
+      some_stage (RefusesCertificate (Some files) name core) (ChecksFile (Some files) name core) _ (certificate_found (file_of name files) refl) (λ x h. (one_line (certify_json x) (checked_status x), refl))
+
 -- ---- all commands
 
+some_none : (n : ℕ) → Some n ≡ None → ⊥
+some_none n e = cc
+
 pub some_answer : AnswersExist
-some_answer files None w = (refused refusal.Usage, refl)
-some_answer files (Some (check f)) w = some_core files f IsCheckAnswer (λ text p c is made. (one_line (core_json c) status.Good, refl))
-some_answer files (Some (print f)) w = some_program files f IsPrintAnswer (λ text p is. (answer_of (canonical_text p) status.Good, refl))
-some_answer files (Some (paths f)) w = some_core files f IsPathsAnswer (λ text p c is made. (goals_answer (events_of c) 0, refl))
-some_answer files (Some (run f v)) w =
+some_answer files None h = (refused refusal.Usage, refl)
+some_answer files (Some (check f)) h = some_core files f IsCheckAnswer (λ text p c is made. (one_line (core_json c) status.Good, refl))
+some_answer files (Some (print f)) h = some_program files f IsPrintAnswer (λ text p is. (answer_of (canonical_text p) status.Good, refl))
+some_answer files (Some (paths f)) h = some_core files f IsPathsAnswer (λ text p c is made. (goals_answer (events_of c) 0, refl))
+some_answer files (Some (verify f)) h =
+    some_core files f IsVerifyAnswer (λ text p c is made. let d = some_end c [] (claim_on c).goals refl in (after_text (line_text (Header 1 c.name c.agents)) d.0, (d.0, (d.1, refl))))
+some_answer files (Some (run f v)) h =
     some_core files f (IsRunAnswer (Some files) v) (λ text p c is made. some_file files v (λ bytes. TellsLeastRun bytes c) (λ bytes. some_least text bytes p c is made))
-some_answer files (Some (replay f v)) w =
+some_answer files (Some (replay f v)) h =
     some_core files f (IsReplayAnswer (Some files) v) (λ text p c is made. some_file files v (λ bytes. TellsGivenRun bytes c) (λ bytes. some_given text bytes p c is made))
-some_answer files (Some (certify f c)) w = absurd w
+some_answer files (Some (certify f c)) h =
+    some_core files f (IsCertifyAnswer (Some files) c) (λ text p core is made. some_certified files c core)
+some_answer files (Some (demo n)) h = absurd (some_none n h)

@@ -7,9 +7,9 @@ use Rattle.slice_io.specs.Files.{Files, told_file, IsFile, IsLonger}
 use Rattle.slice_ast.specs.Code.{PlainProgram}
 use Rattle.slice_core.specs.Tree.{Core}
 use Rattle.slice_report.specs.declared.refusal.Refusal.{Refusal}
-use Rattle.slice_top.specs.Answers.{Answer, stops, goes, WithProgram, WithCore, refused}
+use Rattle.slice_top.specs.Answers.{Answer, stops, goes, OfText, WithProgram, WithCore, refused}
 use Rattle.slice_top.specs.FilesRead.{IsLongFile, limit}
-use Rattle.slice_top.specs.Turns.{HoldsProgram, RefusesSpelling, by_file, by_text, HoldsCore, in_text, in_program, RefusesProtocol, in_file, in_core}
+use Rattle.slice_top.specs.Turns.{HoldsProgram, RefusesSpelling, by_file, by_text, HoldsCore, IsCoreOfText, RefusesCoreOfText, in_text, in_program, RefusesProtocol, in_file, in_core}
 use Rattle.slice_top.specs.Stops.{StopsBy, StopsFor}
 use Rattle.slice_top.specs.declared.stop.Stop.{Stop}
 use Rattle.slice_top.specs.declared.stop.Stop.TheVariants as stop
@@ -88,3 +88,14 @@ pub no_core : (told : Option Files) (f : List ℕ) (Next : Core → Answer → T
 no_core told f Next r (in_file h) = stops r h refl
 no_core told f Next r (in_core text file (in_text h)) = goes text file (stops r h refl)
 no_core told f Next r (in_core text file (in_program p is h)) = goes text file (goes p is (stops r h refl))
+
+-- ---- the core of a text
+
+-- what follows from the core
+pub with_core_of_text : (text : List ℕ) (Next : Core → Answer → Type 0) (core : Core) (a : Answer) → IsCoreOfText text core → Next core a → OfText text Next a
+with_core_of_text text Next core a h next = goes h.program h.spelled (goes core h.made next)
+
+-- it is refused
+pub no_core_of_text : (text : List ℕ) (Next : Core → Answer → Type 0) (r : Refusal) → RefusesCoreOfText text r → OfText text Next (refused r)
+no_core_of_text text Next r (in_text h) = stops r h refl
+no_core_of_text text Next r (in_program p is h) = goes p is (stops r h refl)

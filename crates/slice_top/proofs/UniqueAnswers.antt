@@ -1,5 +1,5 @@
 -- Files and a command have one answer.
-use Rattle.std.proofs.Common.{◌≡◌, ◌≢◌, ◌∙◌, ℕ, ◌<◌, inl, inr, List, length, Option, Some, None, sym, refl, ap, subst, arith}
+use Rattle.std.proofs.Common.{◌≡◌, ◌≢◌, ◌∙◌, ℕ, ◌<◌, inl, inr, List, [], ◌∷◌, length, Option, Some, None, sym, refl, ap, subst, arith}
 use Rattle.slice_num.specs.Valuation.{Valuation}
 use Rattle.slice_io.specs.Files.{Files, file_of, told_file, IsFile}
 use Rattle.slice_ast.specs.Code.{PlainProgram}
@@ -17,21 +17,37 @@ use Rattle.slice_num.specs.declared.cut_answer.CutAnswer.{CutAnswer}
 use Rattle.slice_run.specs.declared.outcome.RunFault.{RunFault}
 use Rattle.slice_run.specs.Walk.{Told, Walked, Good, Refused, outcome, Least, Given}
 use Rattle.slice_report.specs.declared.refusal.Refusal.{Refusal}
-use Rattle.slice_report.specs.declared.refusal.Refusal.TheVariants.{ReadFault, TooLong}
+use Rattle.slice_report.specs.declared.refusal.Refusal.TheVariants.{ReadFault, TooLong, HeightLimit}
 use Rattle.slice_check.specs.Certificate.{claim_on}
 use Rattle.slice_check.specs.Faults.{IsUnread}
 use Rattle.slice_check.specs.declared.answer.CertAnswer.{CertAnswer}
+use Rattle.slice_check.specs.declared.answer.CertAnswer.TheVariants.{Accepted}
 use Rattle.slice_check.specs.declared.answer.CertFault.{CertFault}
 use Rattle.slice_check.proofs.OneStop.{one_fault, one_answer, answer_or_fault}
 use Rattle.slice_top.specs.Certificates.{SaysOfFile, ChecksFile, RefusesCertificate, missing, given_up, checker_refusal}
-use Rattle.slice_top.specs.Answers.{Answer, refused, Stage, stops, goes, WithFile, WithProgram, WithCore, IsPrintAnswer, IsCheckAnswer, IsPathsAnswer, IsRunAnswer, IsReplayAnswer, IsCertifyAnswer, TellsLeastRun, TellsGivenRun, IsOutcome}
-use Rattle.slice_top.specs.Commands.{check, print, paths, run, replay, certify}
+use Rattle.slice_top.specs.Answers.{Answer, refused, Stage, stops, goes, WithFile, WithProgram, WithCore, IsPrintAnswer, IsCheckAnswer, IsPathsAnswer, IsRunAnswer, IsReplayAnswer, IsCertifyAnswer, Counters, low, high, Follows, Closes, DecidesAll, IsVerifyAnswer, after_text, TellsLeastRun, TellsGivenRun, IsOutcome, OfText, CountsReport, AfterReport, IsDemoAnswer}
+use Rattle.slice_top.specs.Commands.{check, print, paths, verify, run, replay, certify, demo}
 use Rattle.slice_top.specs.Cores.{RefusesCore, IsCoreOf, rule_refusal, limit_refusal}
+use Rattle.slice_top.specs.Demos.{AcceptsReport, RefusesReport, report_name}
 use Rattle.slice_top.specs.FilesRead.{IsFileOf, RefusesFile}
 use Rattle.slice_top.specs.Laws.{AnswersAreUnique}
 use Rattle.slice_top.specs.Programs.{RefusesText, text_refusal}
 use Rattle.slice_top.specs.Runs.{RefusesRun, run_refusal}
 use Rattle.slice_top.proofs.FileFaults.{values_apart, replay_apart, replay_same}
+use Rattle.std.specs.Prelude.{ℤ}
+use Rattle.slice_atoms.specs.Addresses.{atom_count}
+use Rattle.slice_paths.specs.Goals.{Goal}
+use Rattle.slice_paths.specs.Ways.{way_of}
+use Rattle.slice_paths.specs.declared.goal.GoalFault.{GoalFault}
+use Rattle.slice_simplex.specs.ProverAnswer.{ProverAnswer, RefutedBy, SolvedBy, AtLimit, Unfit}
+use Rattle.slice_simplex.proofs.Once.{answer_is_one}
+use Rattle.slice_cert.specs.CertLines.{line_text}
+use Rattle.slice_cert.specs.declared.line.Line.TheVariants.{Header, Refutation}
+use Rattle.slice_verify.specs.Report.{pivot_limit}
+use Rattle.slice_gen.specs.Rounds.{rounds_text}
+use Rattle.slice_top.specs.declared.status.Status.{Status}
+use Rattle.slice_top.specs.declared.status.Status.TheVariants as status
+use Rattle.slice_top.proofs.Heights.{not_both_heights, one_height}
 use Rattle.slice_top.proofs.CheckedFiles.{not_refused}
 use Rattle.slice_top.proofs.ToldRuns.{some_agent}
 use Rattle.slice_top.specs.Values.{RefusesValues, RefusesReplay, values_refusal}
@@ -193,6 +209,58 @@ module _ (files : Files) (name : List ℕ) (core : Core) where
       stage_one (RefusesCertificate (Some files) name core) (ChecksFile (Some files) name core) _ one_certificate_refusal certificate_apart
       (λ x y h k. let b = bytes_of h in one_answer (claim_on core) b.0 x y (h.says b.0 b.1) (k.says b.0 b.1)) (λ x h a b e f. told_is e f)
 
+-- ---- decisions
+
+closes_one : (n : ℕ) (f : Option GoalFault) → One (Closes n f)
+closes_one n None a b h k = told_is h k
+closes_one n (Some f) a b h k = h.1.1 ∙ ap refused (some_same (sym h.1.0 ∙ k.1.0)) ∙ sym k.1.1
+
+counters_one : (core : Core) (g : Goal) (xs : List ℤ) → One (Counters core g xs)
+counters_one core g xs a b (low l e) (low k f) = told_is e f
+counters_one core g xs a b (low l e) (high agent atom k f) = absurd (not_both_heights core.agents (atom_count (way_of core g.trace).cake) xs agent atom l k)
+counters_one core g xs a b (high agent atom l e) (low k f) = absurd (not_both_heights core.agents (atom_count (way_of core g.trace).cake) xs agent atom k l)
+counters_one core g xs a b (high agent atom l e) (high other part k f) =
+    let same = one_height core.agents (atom_count (way_of core g.trace).cake) xs agent atom other part l k in
+    e ∙ (λ i. refused (HeightLimit g.number (same.0 i) (same.1 i))) ∙ sym f
+
+follows_one : (core : Core) (g : Goal) (Next : Answer → Type 0) (p : ProverAnswer) → One Next → One (Follows core g Next p)
+follows_one core g Next (RefutedBy m) next a b (x, (h, e)) (y, (k, f)) = e ∙ ap (after_text (line_text (Refutation g.number m))) (next x y h k) ∙ sym f
+follows_one core g Next (SolvedBy xs) next a b h k = counters_one core g xs a b h k
+follows_one core g Next AtLimit next a b e f = told_is e f
+follows_one core g Next (Unfit pivots row col) next a b e f = told_is e f
+
+decides_one : (core : Core) (n : ℕ) (f : Option GoalFault) (gs : List Goal) → One (DecidesAll core n f gs)
+decides_one core n f [] a b h k = closes_one n f a b h k
+decides_one core n f (g ∷ gs) a b (p, (is, h)) (q, (same, k)) =
+    let Next = DecidesAll core n f gs in
+    follows_one core g Next p (decides_one core n f gs) a b h (subst (λ (r : ProverAnswer). Follows core g Next r b) (answer_is_one g.rows pivot_limit q p same is) k)
+
+verify_one : (core : Core) → One (IsVerifyAnswer core)
+verify_one core a b (x, (h, e)) (y, (k, f)) =
+    e ∙ ap (after_text (line_text (Header 1 core.name core.agents))) (decides_one core (length (claim_on core).goals) (claim_on core).fault (claim_on core).goals x y h k) ∙ sym f
+
+-- ---- reports
+
+one_accepted : {m n : ℕ} → Accepted m ≡ Accepted n → m ≡ n
+one_accepted e = cc
+
+counts_one : (core : Core) (report : List ℕ) → One (CountsReport core report)
+counts_one core report =
+    let own = λ (f : CertFault) (r : Refusal) (e : checker_refusal report_name f ≡ Some r) (u : IsUnread f). not_refused report_name f r u e in
+    stage_one (RefusesReport core report) (AcceptsReport core report) _
+    (λ r s h k. one_refusal (checker_refusal report_name) h.0 k.0 r s (one_fault (claim_on core) report h.0 k.0 (own h.0 r h.1.0) (own k.0 s k.1.0) h.1.1 k.1.1) h.1.0 k.1.0)
+    (λ r n h k. own h.0 r h.1.0 (answer_or_fault (claim_on core) report (Accepted n) h.0 k h.1.1)) (λ m n h k. one_accepted (one_answer (claim_on core) report (Accepted m) (Accepted n) h k)) (λ n h a b e f. told_is e f)
+
+after_one : (core : Core) (report : List ℕ) (s : Status) → One (AfterReport core report s)
+after_one core report status.Good a b h k = counts_one core report a b h k
+after_one core report s a b h k = told_is h k
+
+demo_one : (core : Core) → One (IsDemoAnswer core)
+demo_one core a b (x, (h, e)) (y, (k, f)) = after_one core x.text x.status a b e (subst (λ (r : Answer). AfterReport core r.text r.status b) (verify_one core y x k h) f)
+
+made_one : ReadProgramsAreUnique → (text : List ℕ) → One (OfText text IsDemoAnswer)
+made_one once text = text_one once text _ (λ p is. core_one p (parsed_of text p is) IsDemoAnswer (λ c made. demo_one c))
+
 -- ---- all commands
 
 -- where a text is read as one program
@@ -201,6 +269,8 @@ answer_unique once files None a b e f = told_is e f
 answer_unique once files (Some (check f)) a b h k = with_core_one once files f IsCheckAnswer (λ c some x y e g. told_is e g) a b h k
 answer_unique once files (Some (print f)) a b h k = program_one once files f IsPrintAnswer (λ text p is x y e g. told_is e g) a b h k
 answer_unique once files (Some (paths f)) a b h k = with_core_one once files f IsPathsAnswer (λ c some x y e g. told_is e g) a b h k
+answer_unique once files (Some (verify f)) a b h k = with_core_one once files f IsVerifyAnswer (λ c some. verify_one c) a b h k
 answer_unique once files (Some (run f v)) a b h k = with_core_one once files f (IsRunAnswer (Some files) v) (λ c some. file_one files v _ (λ bytes. least_one bytes c some)) a b h k
 answer_unique once files (Some (replay f v)) a b h k = with_core_one once files f (IsReplayAnswer (Some files) v) (λ c some. file_one files v _ (λ bytes. given_one bytes c some)) a b h k
 answer_unique once files (Some (certify f c)) a b h k = with_core_one once files f (IsCertifyAnswer (Some files) c) (λ core some. certify_one files c core) a b h k
+answer_unique once files (Some (demo n)) a b h k = made_one once (rounds_text n) a b h k

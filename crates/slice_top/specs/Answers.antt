@@ -1,6 +1,6 @@
 -- What is answered to a command over files, faults of devices and want of memory aside: by stages, in the order of refusals.
 -- Of a shelf that tells no files it is said for some bytes of each file, and of a certificate nothing but the form of its line.
-use Rattle.std.specs.Prelude.{◌≡◌, ℕ, ◌+◌, nat_lt, if◌then◌else◌, List, [], ◌∷◌, ◌++◌, Option, Some, None}
+use Rattle.std.specs.Prelude.{◌≡◌, ℕ, ◌+◌, nat_lt, if◌then◌else◌, ℤ, List, [], ◌∷◌, ◌++◌, length, Option, Some, None}
 use Rattle.serde_json.specs.Data.{Data}
 use Rattle.slice_json.specs.Texts.{line_of}
 use Rattle.slice_num.specs.Valuation.{Valuation}
@@ -12,19 +12,35 @@ use Rattle.slice_parse.specs.Laws.{IsProgramOf}
 use Rattle.slice_core.specs.Tree.{Core}
 use Rattle.slice_step.specs.ValuationFile.{IsValuationFile, IsReplayFile}
 use Rattle.slice_run.specs.Walk.{Told, Walked, Good, outcome, Least, Given}
+use Rattle.slice_atoms.specs.Addresses.{atom_count}
 use Rattle.slice_paths.specs.Events.{Event, Meets, Breaks, events_of, goal_at, goal_limit}
+use Rattle.slice_paths.specs.Goals.{Goal}
+use Rattle.slice_paths.specs.Ways.{way_of}
+use Rattle.slice_paths.specs.declared.goal.GoalFault.{GoalFault}
+use Rattle.slice_simplex.specs.ProverAnswer.{ProverAnswer, IsProverAnswer, RefutedBy, SolvedBy, AtLimit, Unfit}
+use Rattle.slice_cert.specs.CertLines.{line_text}
+use Rattle.slice_cert.specs.declared.line.Line.TheVariants.{Header, Refutation, Closing}
+use Rattle.slice_check.specs.Certificate.{claim_on}
+use Rattle.slice_counter.specs.Counter.{IsLow, valuations_of, answers_of}
+use Rattle.slice_counter.specs.CounterLine.{counter_json}
+use Rattle.slice_counter.specs.Heights.{IsFirstHigh}
+use Rattle.slice_verify.specs.Report.{pivot_limit}
+use Rattle.slice_gen.specs.Rounds.{rounds_text}
 use Rattle.slice_check.specs.declared.answer.CertAnswer.{CertAnswer}
 use Rattle.slice_report.specs.CertifyReport.{certify_json}
 use Rattle.slice_report.specs.GoalReport.{count_json, goal_json}
 use Rattle.slice_report.specs.Refusals.{refused_json}
 use Rattle.slice_report.specs.RunReport.{told_json}
 use Rattle.slice_report.specs.CoreReport.{core_json}
+use Rattle.slice_report.specs.DemoReport.{demo_json}
 use Rattle.slice_report.specs.declared.refusal.Refusal.{Refusal}
-use Rattle.slice_report.specs.declared.refusal.Refusal.TheVariants.{Usage, GoalLimit, FormOverflow}
+use Rattle.slice_report.specs.declared.refusal.Refusal.TheVariants.{Usage, GoalLimit, FormOverflow, ProverOverflow, PivotLimit, HeightLimit}
 use Rattle.slice_top.specs.Certificates.{ChecksFile, RefusesCertificate, checked_status}
-use Rattle.slice_top.specs.Commands.{Command, check, print, paths, run, replay, certify}
+use Rattle.slice_top.specs.Commands.{Command, check, print, paths, verify, run, replay, certify, demo}
+use Rattle.slice_top.specs.Demos.{AcceptsReport, RefusesReport, last_line}
 use Rattle.slice_top.specs.Statuses.{refused_status}
 use Rattle.slice_top.specs.FilesRead.{IsFileOf, RefusesFile}
+use Rattle.slice_top.specs.Goals.{goal_refusal}
 use Rattle.slice_top.specs.Programs.{RefusesText}
 use Rattle.slice_top.specs.Cores.{IsCoreOf, RefusesCore}
 use Rattle.slice_top.specs.Values.{RefusesValues, RefusesReplay}
@@ -61,6 +77,10 @@ WithFile told name Next = Stage (RefusesFile told name) (IsFileOf told name) Nex
 abbrev pub WithProgram : Option Files → List ℕ → (PlainProgram → Answer → Type 0) → Answer → Type 0
 WithProgram told f Next = WithFile told f (λ text. Stage (RefusesText text) (IsProgramOf text) Next)
 
+-- a text is read as a program, which is checked and expanded
+abbrev pub OfText : List ℕ → (Core → Answer → Type 0) → Answer → Type 0
+OfText text Next = Stage (RefusesText text) (IsProgramOf text) (λ p. Stage (RefusesCore p) (IsCoreOf p) Next)
+
 -- the program is checked and expanded
 abbrev pub WithCore : Option Files → List ℕ → (Core → Answer → Type 0) → Answer → Type 0
 WithCore told f Next = WithProgram told f (λ p. Stage (RefusesCore p) (IsCoreOf p) Next)
@@ -75,9 +95,12 @@ IsPrintAnswer p a = a ≡ answer_of (canonical_text p) status.Good
 abbrev pub IsCheckAnswer : Core → Answer → Type 0
 IsCheckAnswer core a = a ≡ one_line (core_json core) status.Good
 
--- a line, and then the rest of an answer
+-- a text, or a line, and then the rest of an answer
+abbrev pub after_text : List ℕ → Answer → Answer
+after_text out a = answer_of (out ++ a.text) a.status
+
 abbrev pub after_line : Data → Answer → Answer
-after_line d a = answer_of (line_of d ++ a.text) a.status
+after_line d a = after_text (line_of d) a
 
 -- a line for each goal that is ahead, where so many were given before, and then one of their count; or why a goal is refused
 abbrev pub goals_answer : List Event → ℕ → Answer
@@ -90,6 +113,38 @@ goals_answer (Meets t ∷ es) given =
 -- `paths F`: the goals of the core
 abbrev pub IsPathsAnswer : Core → Answer → Type 0
 IsPathsAnswer core a = a ≡ goals_answer (events_of core) 0
+
+-- the line of the counterexample that a solution of the goal's rows gives
+abbrev pub counterexample_json : Core → Goal → List ℤ → Data
+counterexample_json core g xs = counter_json g.number g.kind g.query (valuations_of core.agents (way_of core g.trace).cake xs) (answers_of (way_of core g.trace))
+
+-- what a solution of the goal's rows comes to: the line of its counterexample; or that a height is above the greatest, the
+-- first by agent and atom
+pub data Counters (core : Core) (g : Goal) (xs : List ℤ) (a : Answer) : Type 0 where
+  low : IsLow xs → a ≡ one_line (counterexample_json core g xs) status.Negative → Counters core g xs a
+  high : (agent atom : ℕ) → IsFirstHigh core.agents (atom_count (way_of core g.trace).cake) xs agent atom → a ≡ refused (HeightLimit g.number agent atom) → Counters core g xs a
+
+-- what follows the prover's answer on a goal: where its rows are refuted, its line and then the rest of the answer
+abbrev pub Follows : Core → Goal → (Answer → Type 0) → ProverAnswer → Answer → Type 0
+Follows core g Next (RefutedBy m) a = (b : Answer) × (Next b × (a ≡ after_text (line_text (Refutation g.number m)) b))
+Follows core g Next (SolvedBy xs) a = Counters core g xs a
+Follows core g Next AtLimit a = a ≡ refused (PivotLimit g.number)
+Follows core g Next (Unfit pivots row col) a = a ≡ refused (ProverOverflow g.number pivots row col)
+
+-- after the last goal, of so many: the closing line, or why no further goal is given
+abbrev pub Closes : ℕ → Option GoalFault → Answer → Type 0
+Closes n None a = a ≡ answer_of (line_text (Closing n)) status.Good
+Closes n (Some f) a = (r : Refusal) × ((goal_refusal f ≡ Some r) × (a ≡ refused r))
+
+-- the goals are decided in their order, up to the first that isn't refuted
+abbrev pub DecidesAll : Core → ℕ → Option GoalFault → List Goal → Answer → Type 0
+DecidesAll core n fault [] a = Closes n fault a
+DecidesAll core n fault (g ∷ gs) a = (p : ProverAnswer) × (IsProverAnswer g.rows pivot_limit p × Follows core g (DecidesAll core n fault gs) p a)
+
+-- `verify F`: the header, and then the goals of the core
+abbrev pub IsVerifyAnswer : Core → Answer → Type 0
+IsVerifyAnswer core a =
+    (b : Answer) × (DecidesAll core (length (claim_on core).goals) (claim_on core).fault (claim_on core).goals b × (a ≡ after_text (line_text (Header 1 core.name core.agents)) b))
 
 -- what is told of the run, or why it was given up
 abbrev pub IsOutcome : Walked Told → Answer → Type 0
@@ -115,13 +170,28 @@ IsReplayAnswer told v core = WithFile told v (λ bytes. TellsGivenRun bytes core
 abbrev pub IsCertifyAnswer : Option Files → List ℕ → Core → Answer → Type 0
 IsCertifyAnswer told c core = Stage (RefusesCertificate told c core) (ChecksFile told c core) (λ (x : CertAnswer) a. a ≡ one_line (certify_json x) (checked_status x))
 
+-- the report of `verify` ends well, and is checked: how many bytes it has, and for how many goals it is accepted
+abbrev pub CountsReport : Core → List ℕ → Answer → Type 0
+CountsReport core report = Stage (RefusesReport core report) (AcceptsReport core report) (λ n a. a ≡ one_line (demo_json core n (length report)) status.Good)
+
+-- what follows the report of `verify`: where it doesn't end well, its last line
+abbrev pub AfterReport : Core → List ℕ → Status → Answer → Type 0
+AfterReport core report status.Good a = CountsReport core report a
+AfterReport core report s a = a ≡ answer_of (last_line report) s
+
+-- `demo N`: the report of `verify` is made, and then checked as a certificate
+abbrev pub IsDemoAnswer : Core → Answer → Type 0
+IsDemoAnswer core a = (report : Answer) × (IsVerifyAnswer core report × AfterReport core report.text report.status a)
+
 abbrev pub IsAnswerTo : Option Files → Command → Answer → Type 0
 IsAnswerTo told (check f) = WithCore told f IsCheckAnswer
 IsAnswerTo told (print f) = WithProgram told f IsPrintAnswer
 IsAnswerTo told (paths f) = WithCore told f IsPathsAnswer
+IsAnswerTo told (verify f) = WithCore told f IsVerifyAnswer
 IsAnswerTo told (run f v) = WithCore told f (IsRunAnswer told v)
 IsAnswerTo told (replay f v) = WithCore told f (IsReplayAnswer told v)
 IsAnswerTo told (certify f c) = WithCore told f (IsCertifyAnswer told c)
+IsAnswerTo told (demo n) = OfText (rounds_text n) IsDemoAnswer
 
 -- the answer to the command of some words, if they are one
 abbrev pub IsAnswer : Option Files → Option Command → Answer → Type 0

@@ -22,9 +22,9 @@ use Rattle.slice_run.specs.declared.outcome.RunFault.{RunFault}
 use Rattle.slice_run.specs.declared.outcome.RunFault.TheVariants as fault
 use Rattle.slice_report.specs.EnvyLaws.{TellsEnvy}
 use Rattle.slice_top.specs.Answers.{Answer, IsAnswer}
-use Rattle.slice_top.specs.Commands.{Command, check, print, paths, run, replay, certify}
+use Rattle.slice_top.specs.Commands.{Command}
 use Rattle.slice_top.specs.Cores.{IsCoreOf}
-use Rattle.slice_top.specs.Headline.{EveryRunIsFair, run_on}
+use Rattle.slice_top.specs.Headline.{EveryRunIsFair, made_rounds, run_on}
 
 -- ---- runs of the program
 
@@ -102,16 +102,6 @@ RefutedGoalsMeanFairRuns =
 abbrev pub AnswersAreUnique : Type 0
 AnswersAreUnique = (files : Files) (c : Option Command) (a b : Answer) → IsAnswer (Some files) c a → IsAnswer (Some files) c b → a ≡ b
 
--- a command that reads its files whole: each but `certify`, which reads a certificate line by line
-abbrev pub ReadsWhole : Option Command → Type 0
-ReadsWhole None = ⊤
-ReadsWhole (Some (check f)) = ⊤
-ReadsWhole (Some (print f)) = ⊤
-ReadsWhole (Some (paths f)) = ⊤
-ReadsWhole (Some (run f v)) = ⊤
-ReadsWhole (Some (replay f v)) = ⊤
-ReadsWhole (Some (certify f c)) = ⊥
-
--- and such a command has one
+-- and have one, whatever the files hold; of `demo`, which reads none, it isn't said
 abbrev pub AnswersExist : Type 0
-AnswersExist = (files : Files) (c : Option Command) → ReadsWhole c → (a : Answer) × IsAnswer (Some files) c a
+AnswersExist = (files : Files) (c : Option Command) → made_rounds c ≡ None → (a : Answer) × IsAnswer (Some files) c a

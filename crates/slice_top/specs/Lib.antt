@@ -1,12 +1,17 @@
 pub mod Answers
 pub mod Certificates
 pub mod Commands
+pub mod Completeness
 pub mod Cores
+pub mod Decisions
+pub mod Demos
 pub mod FilesRead
+pub mod Found
 pub mod Goals
 pub mod Headline
 pub mod Laws
 pub mod Programs
+pub mod ReplayLaw
 pub mod Reports
 pub mod Runs
 pub mod Settled

@@ -14,9 +14,11 @@ abbrev pub command_view : Command → words.Command
 command_view (command.Check protocol) = words.check protocol.now
 command_view (command.Print protocol) = words.print protocol.now
 command_view (command.Paths protocol) = words.paths protocol.now
+command_view (command.Verify protocol) = words.verify protocol.now
 command_view (command.Run protocol values) = words.run protocol.now values.now
 command_view (command.Replay protocol values) = words.replay protocol.now values.now
 command_view (command.Certify protocol certificate) = words.certify protocol.now certificate.now
+command_view (command.Demo rounds) = words.demo rounds
 
 -- a refusal that work gives, whose words are texts
 abbrev pub IsOfWork : Refusal → Type 0

@@ -4,7 +4,7 @@ use Rattle.slice_io.specs.Files.{Files}
 use Rattle.slice_ast.specs.Code.{PlainProgram}
 use Rattle.slice_core.specs.Tree.{Core}
 use Rattle.slice_parse.specs.Laws.{IsProgramOf}
-use Rattle.slice_top.specs.Commands.{Command, check, print, paths, run, replay, certify}
+use Rattle.slice_top.specs.Commands.{Command, check, print, paths, verify, run, replay, certify, demo}
 use Rattle.slice_top.specs.FilesRead.{IsFileOf, RefusesFile}
 use Rattle.slice_top.specs.Cores.{IsCoreOf, RefusesCore}
 use Rattle.slice_top.specs.Programs.{RefusesText}
@@ -43,18 +43,20 @@ pub data RefusesProtocol (told : Option Files) (name : List ℕ) (r : Refusal) :
   in_file : RefusesFile told name r → RefusesProtocol told name r
   in_core : (text : List ℕ) → IsFileOf told name text → RefusesCoreOfText text r → RefusesProtocol told name r
 
--- the second file's turn has come: the protocol in the first has a core
+-- the second file's turn has come: the protocol in the first has a core. Of a shelf that tells nothing it has come at once
 abbrev pub IsSecondTurn : Option Files → List ℕ → Type 0
 IsSecondTurn told f = (core : Core) × HoldsCore told f core
 
--- the command reads the file of this name: that of the protocol, and a second one once the protocol has a core
+-- the command reads the file of this name: that of the protocol, and a second one once the protocol has a core; `demo` reads none
 abbrev pub Reads : Option Files → Command → List ℕ → Type 0
 Reads told (check f) name = name ≡ f
 Reads told (print f) name = name ≡ f
 Reads told (paths f) name = name ≡ f
+Reads told (verify f) name = name ≡ f
 Reads told (run f v) name = (name ≡ f) ⊎ ((name ≡ v) × IsSecondTurn told f)
 Reads told (replay f v) name = (name ≡ f) ⊎ ((name ≡ v) × IsSecondTurn told f)
 Reads told (certify f c) name = (name ≡ f) ⊎ ((name ≡ c) × IsSecondTurn told f)
+Reads told (demo n) name = ⊥
 
 abbrev pub ReadsFor : Option Files → Option Command → List ℕ → Type 0
 ReadsFor told None name = ⊥

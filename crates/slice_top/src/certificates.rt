@@ -54,8 +54,8 @@ fn checked_status(answer: CertAnswer) -> Status
     }
 }
 
-// What the checker says of the certificate in a file.
-fn check_file<S: Shelf>(
+/// What the checker says of the certificate in a file.
+pub(crate) fn check_file<S: Shelf>(
     alloc: Global,
     shelf: &mut S,
     core: &Core,

@@ -1,7 +1,7 @@
 //! The words of the command line.
 ghost use Rattle.std.specs.Prelude.{◌≡◌, map, option_map};
 ghost use Rattle.std.specs.String.{string_bytes};
-ghost use Rattle.slice_top.specs.Commands.{command_of, of_one_file, of_two_files};
+ghost use Rattle.slice_top.specs.Commands.{command_of, of_one_word, of_rounds, of_two_files, rounds_of};
 ghost use Rattle.slice_top.specs.Stops.{command_view};
 
 /// What is asked for. Files go by name.
@@ -19,6 +19,10 @@ pub enum Command<'a> {
     Paths {
         protocol: &'a str,
     },
+    /// `verify F`: a certificate of the protocol in the file F is written, or a run that is stuck or leaves envy.
+    Verify {
+        protocol: &'a str,
+    },
     /// `run F V`: the protocol in the file F is run on the valuations in the file V.
     Run {
         protocol: &'a str,
@@ -34,17 +38,19 @@ pub enum Command<'a> {
         protocol: &'a str,
         certificate: &'a str,
     },
+    /// `demo N`: the protocol `rounds` of N rounds, from 1 to 8, is made, decided, and its certificate checked.
+    Demo {
+        rounds: u32,
+    },
 }
 
 /// The command of these words, those after the program's name, if they are one. The name of a
-/// file is any text that isn't empty.
+/// file is any text that isn't empty, and the number of rounds one digit from 1 to 8.
 pub fn command_of(words: &Vec<String>) -> Option<Command<'_>>
     ensures { option_map command_view result ≡ command_of (map string_bytes words.now.items) }
 {
     match words.as_slice() {
-        [word, protocol] if !protocol.is_empty() => {
-            of_one_file(word.as_str(), protocol.as_str())
-        }
+        [word, second] if !second.is_empty() => of_one_word(word.as_str(), second.as_str()),
         [word, protocol, second] if !protocol.is_empty() && !second.is_empty() => {
             of_two_files(word.as_str(), protocol.as_str(), second.as_str())
         }
@@ -52,9 +58,9 @@ pub fn command_of(words: &Vec<String>) -> Option<Command<'_>>
     }
 }
 
-// The command of that word on a protocol.
-fn of_one_file<'a>(word: &str, protocol: &'a str) -> Option<Command<'a>>
-    ensures { option_map command_view result ≡ of_one_file word.now protocol.now }
+// The command of that word on a protocol, or on a number of rounds.
+fn of_one_word<'a>(word: &str, protocol: &'a str) -> Option<Command<'a>>
+    ensures { option_map command_view result ≡ of_one_word word.now protocol.now }
 {
     if word == "check" {
         return Some(Command::Check { protocol });
@@ -65,7 +71,33 @@ fn of_one_file<'a>(word: &str, protocol: &'a str) -> Option<Command<'a>>
     if word == "paths" {
         return Some(Command::Paths { protocol });
     }
+    if word == "verify" {
+        return Some(Command::Verify { protocol });
+    }
+    if word == "demo" {
+        return of_rounds(protocol);
+    }
     None
+}
+
+// The command `demo` of the number that the word tells.
+fn of_rounds<'a>(word: &str) -> Option<Command<'a>>
+    ensures { option_map command_view result ≡ of_rounds word.now }
+{
+    match rounds_of(word.as_bytes()) {
+        Some(rounds) => Some(Command::Demo { rounds }),
+        None => None,
+    }
+}
+
+// The number of rounds that is written as one digit from 1 to 8.
+fn rounds_of(text: &[u8]) -> Option<u32>
+    ensures { result ≡ rounds_of text.now }
+{
+    match text {
+        [digit] if *digit >= b'1' && *digit <= b'8' => Some((*digit - b'0') as u32),
+        _ => None,
+    }
 }
 
 // The command of that word on a protocol and a second file.

@@ -37,8 +37,8 @@ pub(crate) fn read_core<S: Shelf>(alloc: Global, shelf: &mut S, name: &str) -> R
     core_of_text(alloc, &text)
 }
 
-// The core of a text.
-fn core_of_text(alloc: Global, text: &[u8]) -> Result<Core, Stop>
+/// The core of a text.
+pub(crate) fn core_of_text(alloc: Global, text: &[u8]) -> Result<Core, Stop>
     ensures ok { IfOk result (λ c. IsCoreOfText text.now (core_of c)) }
     ensures err { IfErr result (StopsFor (RefusesCoreOfText text.now)) }
 {

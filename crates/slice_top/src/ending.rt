@@ -4,9 +4,11 @@ ghost use Rattle.std.specs.String.{string_bytes};
 ghost use Rattle.slice_io.specs.Causes.{HasCause, Rose};
 ghost use Rattle.slice_io.specs.Files.{Files};
 ghost use Rattle.slice_io.specs.Told.{appended, FrontIsOut};
+ghost use Rattle.slice_gen.specs.Rounds.{rounds_text};
 ghost use Rattle.slice_report.specs.Refusals.{HasTexts};
 ghost use Rattle.slice_top.specs.Commands.{command_of};
-ghost use Rattle.slice_top.specs.Headline.{HoldsFairProgram, shown_file};
+ghost use Rattle.slice_top.specs.Found.{HoldsUnfairProgram, IsUnfairText, met_file};
+ghost use Rattle.slice_top.specs.Headline.{HoldsFairProgram, IsFairText, made_rounds, shown_file};
 ghost use Rattle.slice_top.specs.Turns.{ReadsFor};
 ghost use Rattle.slice_top.specs.Reports.{Reports, memory_line};
 ghost use Rattle.slice_top.specs.Statuses.{IsUsageOrFree};
@@ -110,25 +112,35 @@ fn finish<K: Sink>(sink: &mut K, bytes: &[u8], status: Status) -> Status
     }
 }
 
-/// Does what the words ask for, those after the program's name: reads files from the shelf, writes
-/// the answer to the sink, and tells with what status the program ends.
+/// Does what the words ask for, those after the program's name: reads files from the shelf, writes the answer to the sink, and
+/// tells with what status the program ends.
 ///
-/// `check F` writes one line with the counts of the core of the protocol in the file F. `print F` writes its
-/// canonical text, line by line. `paths F` writes a line for each goal of the core, when it is made, and one of their
-/// count. `run F V` runs it on the valuations in the file V, where each cut is answered by the least right answer,
-/// and `replay F V` with the answers that stand in V; each writes one line. `certify F C` checks the certificate in the
-/// file C for it, line by line, and writes one line: that it is accepted, or what is wrong with it first.
+/// - `check F` writes one line with the counts of the core of the protocol in the file F.
+/// - `print F` writes its canonical text, line by line.
+/// - `paths F` writes a line for each goal of the core, when it is made, and one of their count.
+/// - `run F V` runs it on the valuations in the file V, where each cut is answered by the least right answer, and
+///   `replay F V` with the answers that stand in V; each writes one line.
+/// - `verify F` writes a certificate, a line for each goal when it is refuted; where the rows of one have a solution, the line
+///   of the counterexample that it gives is the last (`Negative`).
+/// - `certify F C` checks the certificate in the file C, line by line, and writes one line: that it is accepted, or what is
+///   wrong with it first (`Negative`).
+/// - `demo N` does the same as `verify` with the protocol `rounds` of N rounds, a digit from 1 to 8, in memory, and then checks
+///   what was written as `certify` does; it writes one line: how many bytes the certificate has, and for how many goals it is
+///   accepted, or that of the counterexample (`Negative`). It reads no file, and what is too long is told of a file `report`.
+///
 /// What stops them is told by one line too, the first of these: the words are no command (`Usage`); F can't be read
-/// (`ReadFault`) or has more than 1,048,576 bytes (`Refused`); its text has a fault, the first of which is told with
-/// its place (`Refused`); and, where more than `print` is asked for, the program breaks a rule, the first of which is
-/// told (`Refused`), or passes a limit of expansion (`Limit`); V can't be read, is too long, or has a fault of form
-/// (`Refused`); an answer is refused (`Refused`), or a number of the run, or of a goal, doesn't fit or a goal is one
-/// too many (`Limit`); C can't be read, or a line of it that is read goes past 268,435,456 bytes (`Refused`), or a number
-/// of the check of its multipliers doesn't fit (`Limit`). `ReadFault` comes only where the shelf's count of faults rose, and `WriteFault` only where the
-/// sink's did; then a front of what was to be written is out. The sink gets line after line. The shelf is asked for V
-/// or C only once F's program keeps the rules and passes no limit, so a `ReadFault` names it only then. `Memory` may come
-/// at any time, and writes a line of its own; of `paths` the lines of goals before a refusal, or before that line,
-/// are out.
+/// (`ReadFault`) or has more than 1,048,576 bytes (`Refused`); its text has a fault, the first of which is told with its place
+/// (`Refused`); and, where more than `print` is asked for, the program breaks a rule, the first of which is told (`Refused`), or
+/// passes a limit of expansion (`Limit`); V can't be read, is too long, or has a fault of form (`Refused`); an answer is refused
+/// (`Refused`), or a number of the run, or of a goal, doesn't fit or a goal is one too many (`Limit`); C can't be read, or a
+/// line of it that is read goes past 268,435,456 bytes (`Refused`), or a number of the check of its multipliers doesn't fit
+/// (`Limit`); a goal isn't decided within 100,000 pivots, a number of the prover doesn't fit, or a height of the counterexample
+/// is too great (`Limit`).
+///
+/// `ReadFault` comes only where the shelf's count of faults rose, and `WriteFault` only where the sink's did; then a front of
+/// what was to be written is out. The sink gets line after line. The shelf is asked for V or C only once F's program keeps the
+/// rules and passes no limit, so a `ReadFault` names it only then. `Memory` may come at any time, and writes a line of its own;
+/// of `paths` and `verify` the lines of goals before a refusal, or before that line, are out.
 pub fn top<S: Shelf, K: Sink>(
     alloc: Global,
     words: &Vec<String>,
@@ -152,8 +164,15 @@ pub fn top<S: Shelf, K: Sink>(
     // tells none.
     ensures report { Reports (S.told shelf.old) (command_of (map string_bytes words.now.items)) (K.told sink.old) (K.told sink.new) result }
 
-    // The headline: where `certify F C` ends with Good, whoever wrote C, every run of the protocol in F is fair.
+    // The headline: where `verify F` or `certify F C` ends with Good, whoever wrote C, every run of the protocol in F is fair.
     ensures headline { result ≡ Status.Good → (files : Files) → S.told shelf.old ≡ Some files → IfSome (shown_file (command_of (map string_bytes words.now.items))) (HoldsFairProgram files) }
+
+    // Where `verify F` ends with Negative, the last line tells a run of the protocol in F that is stuck or leaves envy.
+    ensures found { result ≡ Status.Negative → (files : Files) → S.told shelf.old ≡ Some files → IfSome (met_file (command_of (map string_bytes words.now.items))) (HoldsUnfairProgram files (K.told sink.old) (K.told sink.new)) }
+
+    // The same of the protocol `rounds` of N rounds, which `demo N` makes; it reads no file.
+    ensures headline_of_rounds { result ≡ Status.Good → IfSome (made_rounds (command_of (map string_bytes words.now.items))) (λ n. IsFairText (rounds_text n)) }
+    ensures found_of_rounds { result ≡ Status.Negative → IfSome (made_rounds (command_of (map string_bytes words.now.items))) (λ n. IsUnfairText (K.told sink.old) (K.told sink.new) (rounds_text n)) }
 {
     match settle(alloc, shelf, sink, words) {
         Ending::Last(last) => finish(sink, &last.bytes, last.status),

@@ -21,7 +21,8 @@ pub fn replay_tells_the_run()
 
 /// Where no goal that `paths` tells has rows with a solution, or the rows of each are refuted by some multipliers, every run of
 /// the program in the file is fair: on every list of valuations of any size, however its cuts are answered, no run is stuck,
-/// and one that is done gives disjoint shares and leaves nobody envious; and some run is done.
+/// and one that is done gives disjoint shares and leaves nobody envious; some run is done, and a run that was answered
+/// rightly so far can always be brought to its end.
 pub fn refuted_goals_mean_fair_runs()
     ensures unsolved { UnsolvedGoalsMeanFairRuns }
     ensures refuted { RefutedGoalsMeanFairRuns }
@@ -35,7 +36,7 @@ pub fn answers_are_unique()
     parsings_are_unique();
 }
 
-/// Files and a command have an answer, whatever the files hold; of `certify` it isn't shown.
+/// Files and a command have an answer, whatever the files hold; of `demo` it isn't shown.
 pub fn answers_exist()
     ensures { AnswersExist }
 {}

@@ -3,10 +3,13 @@ ghost use Rattle.std.specs.Prelude.{◌<◌};
 
 mod certified;
 mod checked;
+mod demos;
 mod expanded;
 mod files;
+mod hostile;
 mod neighbours;
 mod rows;
+mod verified;
 
 use crate::{Status, top};
 use expanded::EXPANDED;

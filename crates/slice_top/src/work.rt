@@ -13,6 +13,8 @@ ghost use Rattle.slice_top.specs.Turns.{HoldsProgram, IsSecondTurn, ReadsFor, Re
 use crate::certificates::certify_core;
 use crate::command::Command;
 use crate::cores::read_core;
+use crate::decisions::decide_core;
+use crate::demo::demo_rounds;
 use crate::files::read_file;
 use crate::goals::put_goals;
 use crate::programs::read_program;
@@ -51,12 +53,14 @@ pub(crate) fn work<S: Shelf, K: Sink>(
         Command::Check { protocol } => check(alloc, shelf, protocol),
         Command::Print { protocol } => print(alloc, shelf, protocol),
         Command::Paths { protocol } => paths(alloc, shelf, sink, protocol),
+        Command::Verify { protocol } => verify(alloc, shelf, sink, protocol),
         Command::Run { protocol, values } => run(alloc, shelf, protocol, values),
         Command::Replay { protocol, values } => replay(alloc, shelf, protocol, values),
         Command::Certify {
             protocol,
             certificate,
         } => certify(alloc, shelf, protocol, certificate),
+        Command::Demo { rounds } => demo_rounds(alloc, rounds),
     }
 }
 
@@ -123,6 +127,27 @@ fn paths<S: Shelf, K: Sink>(
         Err(stop) => return Err(stop),
     };
     put_goals(alloc, sink, &core)
+}
+
+// The lines of `verify`.
+fn verify<S: Shelf, K: Sink>(
+    alloc: Global,
+    shelf: &mut S,
+    sink: &mut K,
+    protocol: &str,
+) -> Result<Output, Stop>
+    requires asked { S.CanAsk shelf.old protocol.now }
+    ensures same { S.told shelf.new ≡ S.told shelf.old }
+    ensures later { (S.faults shelf.old ≤ S.faults shelf.new) × (K.faults sink.old ≤ K.faults sink.new) }
+    ensures worked { IfOk result (λ l. IsWorked l.status) }
+    ensures ok { IfOk result (λ l. Ends (IsAnswer (S.told shelf.old) (Some (words.verify protocol.now))) (K.told sink.old) (K.told sink.new) l.bytes.items l.status) }
+    ensures err { IfErr result (StopsIn (IsAnswer (S.told shelf.old) (Some (words.verify protocol.now))) (ReadsFor (S.told shelf.old) (Some (words.verify protocol.now))) (Rose (S.faults shelf.old) (S.faults shelf.new)) (Rose (K.faults sink.old) (K.faults sink.new)) (K.told sink.old) (K.told sink.new)) }
+{
+    let core = match read_core(alloc, shelf, protocol) {
+        Ok(core) => core,
+        Err(stop) => return Err(stop),
+    };
+    decide_core(alloc, sink, &core)
 }
 
 // The program in a file.

@@ -9,7 +9,7 @@ use std::test::Fail;
 
 // A certificate of cut-and-choose, line by line. Its rows for goal 1 are N > 0, x1 - N = 0, x2 - N = 0 and N - 2 * x1 > 0:
 // with 1, 2, 0 and 1 they add up to 0 > 0.
-const LINES: &[&str] = &[
+pub(super) const LINES: &[&str] = &[
     "{\"agents\":2,\"certificate\":1,\"protocol\":\"cc\"}",
     "{\"goal\":0,\"multipliers\":[\"1\",\"0\",\"0\",\"1\"]}",
     "{\"goal\":1,\"multipliers\":[\"1\",\"2\",\"0\",\"1\"]}",
@@ -233,7 +233,7 @@ fn changed(alloc: Global, from: usize, to: usize, lines: &[&str]) -> Result<Stri
     Ok(text)
 }
 
-fn put_lines(text: &mut String, lines: &[&str]) -> Result<(), AllocError> {
+pub(super) fn put_lines(text: &mut String, lines: &[&str]) -> Result<(), AllocError> {
     for line in lines {
         text.push_str(line)?;
         text.push_str("\n")?;
@@ -284,7 +284,7 @@ fn each_further_multiplier_counts(rt: HostRuntime) -> Result<(), Fail> {
 }
 
 // Whether `certify` answers so.
-fn says(
+pub(super) fn says(
     alloc: Global,
     protocol: &str,
     certificate: &str,
@@ -296,7 +296,7 @@ fn says(
     Ok(got == status && out.as_slice() == line.as_bytes())
 }
 
-const ACCEPTED: &str = "{\"accepted\":true,\"goals\":6}\n";
+pub(super) const ACCEPTED: &str = "{\"accepted\":true,\"goals\":6}\n";
 
 // The last line needs no LF. Cut at a third, the left part is worth less than the right to agent 1, who gets it.
 #[test]

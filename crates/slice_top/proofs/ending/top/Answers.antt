@@ -4,7 +4,8 @@ use Rattle.slice_top.specs.Commands.{command_of}
 use Rattle.slice_top.specs.Reports.{memory_line}
 use Rattle.slice_top.specs.declared.status.Status.TheVariants as status
 use Rattle.slice_top.proofs.Endings.{last_report, starved_whole, unwritten_report, written_apart}
-use Rattle.slice_top.proofs.Good.{good_reports}
+use Rattle.slice_top.proofs.Good.{good_demos, good_reports}
+use Rattle.slice_top.proofs.MetRuns.{met_demos, met_reports}
 use Rattle.slice_top.proofs.ending.top.Goals as goal
 
 pub returns-in-Last-clause-report : goal.returns-in-Last-clause-report
@@ -39,3 +40,39 @@ returns-in-Starved-clause-headline g c =
 pub returns-in-Unwritten-clause-headline : goal.returns-in-Unwritten-clause-headline
 returns-in-Unwritten-clause-headline g c =
     good_reports (g.S.Shelf.told c.args.shelf.now) (command_of (map string_bytes c.args.words.now.items)) (g.K.Sink.told c.args.sink.now) (g.K.Sink.told c.settle.new.sink) status.WriteFault (returns-in-Unwritten-clause-report g c)
+
+pub returns-in-Last-clause-found : goal.returns-in-Last-clause-found
+returns-in-Last-clause-found g c =
+    met_reports (g.S.Shelf.told c.args.shelf.now) (command_of (map string_bytes c.args.words.now.items)) (g.K.Sink.told c.args.sink.now) (g.K.Sink.told c.finish.new.sink) c.finish.result (returns-in-Last-clause-report g c)
+
+pub returns-in-Starved-clause-found : goal.returns-in-Starved-clause-found
+returns-in-Starved-clause-found g c =
+    met_reports (g.S.Shelf.told c.args.shelf.now) (command_of (map string_bytes c.args.words.now.items)) (g.K.Sink.told c.args.sink.now) (g.K.Sink.told c.finish-in-Starved.new.sink) c.finish-in-Starved.result (returns-in-Starved-clause-report g c)
+
+pub returns-in-Unwritten-clause-found : goal.returns-in-Unwritten-clause-found
+returns-in-Unwritten-clause-found g c =
+    met_reports (g.S.Shelf.told c.args.shelf.now) (command_of (map string_bytes c.args.words.now.items)) (g.K.Sink.told c.args.sink.now) (g.K.Sink.told c.settle.new.sink) status.WriteFault (returns-in-Unwritten-clause-report g c)
+
+pub returns-in-Last-clause-headline_of_rounds : goal.returns-in-Last-clause-headline_of_rounds
+returns-in-Last-clause-headline_of_rounds g c =
+    good_demos (g.S.Shelf.told c.args.shelf.now) (command_of (map string_bytes c.args.words.now.items)) (g.K.Sink.told c.args.sink.now) (g.K.Sink.told c.finish.new.sink) c.finish.result (returns-in-Last-clause-report g c)
+
+pub returns-in-Last-clause-found_of_rounds : goal.returns-in-Last-clause-found_of_rounds
+returns-in-Last-clause-found_of_rounds g c =
+    met_demos (g.S.Shelf.told c.args.shelf.now) (command_of (map string_bytes c.args.words.now.items)) (g.K.Sink.told c.args.sink.now) (g.K.Sink.told c.finish.new.sink) c.finish.result (returns-in-Last-clause-report g c)
+
+pub returns-in-Starved-clause-headline_of_rounds : goal.returns-in-Starved-clause-headline_of_rounds
+returns-in-Starved-clause-headline_of_rounds g c =
+    good_demos (g.S.Shelf.told c.args.shelf.now) (command_of (map string_bytes c.args.words.now.items)) (g.K.Sink.told c.args.sink.now) (g.K.Sink.told c.finish-in-Starved.new.sink) c.finish-in-Starved.result (returns-in-Starved-clause-report g c)
+
+pub returns-in-Starved-clause-found_of_rounds : goal.returns-in-Starved-clause-found_of_rounds
+returns-in-Starved-clause-found_of_rounds g c =
+    met_demos (g.S.Shelf.told c.args.shelf.now) (command_of (map string_bytes c.args.words.now.items)) (g.K.Sink.told c.args.sink.now) (g.K.Sink.told c.finish-in-Starved.new.sink) c.finish-in-Starved.result (returns-in-Starved-clause-report g c)
+
+pub returns-in-Unwritten-clause-headline_of_rounds : goal.returns-in-Unwritten-clause-headline_of_rounds
+returns-in-Unwritten-clause-headline_of_rounds g c =
+    good_demos (g.S.Shelf.told c.args.shelf.now) (command_of (map string_bytes c.args.words.now.items)) (g.K.Sink.told c.args.sink.now) (g.K.Sink.told c.settle.new.sink) status.WriteFault (returns-in-Unwritten-clause-report g c)
+
+pub returns-in-Unwritten-clause-found_of_rounds : goal.returns-in-Unwritten-clause-found_of_rounds
+returns-in-Unwritten-clause-found_of_rounds g c =
+    met_demos (g.S.Shelf.told c.args.shelf.now) (command_of (map string_bytes c.args.words.now.items)) (g.K.Sink.told c.args.sink.now) (g.K.Sink.told c.settle.new.sink) status.WriteFault (returns-in-Unwritten-clause-report g c)

@@ -1,12 +1,12 @@
 use Rattle.std.proofs.Common.{ap, subst, sym, Some}
 use Rattle.slice_io.specs.Causes.{Rose}
 use Rattle.slice_top.specs.Commands as words
-use Rattle.slice_top.specs.Answers.{IsAnswer}
+use Rattle.slice_top.specs.Answers.{IsAnswer, refused}
 use Rattle.slice_top.specs.Settled.{Ends, StopsIn}
 use Rattle.slice_top.specs.Stops.{command_view}
 use Rattle.slice_top.specs.Turns.{ReadsFor}
 use Rattle.slice_top.proofs.Endings.{ends_at_once, stops_at_once}
-use Rattle.slice_top.proofs.Stages.{if_ok_so, if_err_so}
+use Rattle.slice_top.proofs.Stages.{if_ok_so, if_err_so, stops_from}
 use Rattle.slice_top.proofs.work.work.Goals as goal
 
 pub returns-in-Check-clause-ok : goal.returns-in-Check-clause-ok
@@ -109,3 +109,36 @@ returns-in-Paths-clause-err g c =
     let shelf = Rose (g.S.Shelf.faults c.args.shelf.now) (g.S.Shelf.faults c.paths.new.shelf) in
     let sink = Rose (g.K.Sink.faults c.args.sink.now) (g.K.Sink.faults c.paths.new.sink) in
     if_err_so _ _ (λ s h. subst (λ (k : words.Command). StopsIn (IsAnswer told (Some k)) (ReadsFor told (Some k)) shelf sink before after s) (sym (ap command_view c.in-Paths.is)) h) c.paths.result c.paths.ensures.err
+
+pub returns-in-Verify-clause-ok : goal.returns-in-Verify-clause-ok
+returns-in-Verify-clause-ok g c =
+    let told = g.S.Shelf.told c.args.shelf.now in
+    let before = g.K.Sink.told c.args.sink.now in
+    let after = g.K.Sink.told c.verify.new.sink in
+    if_ok_so _ _ (λ l h. subst (λ (k : words.Command). Ends (IsAnswer told (Some k)) before after l.bytes.items l.status) (sym (ap command_view c.in-Verify.is)) h) c.verify.result c.verify.ensures.ok
+
+pub returns-in-Verify-clause-err : goal.returns-in-Verify-clause-err
+returns-in-Verify-clause-err g c =
+    let told = g.S.Shelf.told c.args.shelf.now in
+    let before = g.K.Sink.told c.args.sink.now in
+    let after = g.K.Sink.told c.verify.new.sink in
+    let shelf = Rose (g.S.Shelf.faults c.args.shelf.now) (g.S.Shelf.faults c.verify.new.shelf) in
+    let sink = Rose (g.K.Sink.faults c.args.sink.now) (g.K.Sink.faults c.verify.new.sink) in
+    if_err_so _ _ (λ s h. subst (λ (k : words.Command). StopsIn (IsAnswer told (Some k)) (ReadsFor told (Some k)) shelf sink before after s) (sym (ap command_view c.in-Verify.is)) h) c.verify.result c.verify.ensures.err
+
+pub returns-in-Demo-clause-ok : goal.returns-in-Demo-clause-ok
+returns-in-Demo-clause-ok g c =
+    let told = g.S.Shelf.told c.args.shelf.now in
+    let out = g.K.Sink.told c.args.sink.now in
+    if_ok_so _ _ (λ l h. subst (λ (k : words.Command). Ends (IsAnswer told (Some k)) out out l.bytes.items l.status) (sym (ap command_view c.in-Demo.is))
+    (ends_at_once (IsAnswer told (Some (words.demo c.in-Demo.rounds))) out l.bytes.items l.status h)) c.demo_rounds.result c.demo_rounds.ensures.ok
+
+pub returns-in-Demo-clause-err : goal.returns-in-Demo-clause-err
+returns-in-Demo-clause-err g c =
+    let told = g.S.Shelf.told c.args.shelf.now in
+    let out = g.K.Sink.told c.args.sink.now in
+    let shelf = Rose (g.S.Shelf.faults c.args.shelf.now) (g.S.Shelf.faults c.args.shelf.now) in
+    let sink = Rose (g.K.Sink.faults c.args.sink.now) (g.K.Sink.faults c.args.sink.now) in
+    let k = Some (words.demo c.in-Demo.rounds) in
+    if_err_so _ _ (λ s h. subst (λ (k : words.Command). StopsIn (IsAnswer told (Some k)) (ReadsFor told (Some k)) shelf sink out out s) (sym (ap command_view c.in-Demo.is))
+    (stops_at_once (IsAnswer told k) (ReadsFor told k) shelf sink out s (stops_from (λ r. IsAnswer told k (refused r)) (λ r. IsAnswer told k (refused r)) (ReadsFor told k) shelf (λ r x. x) s h))) c.demo_rounds.result c.demo_rounds.ensures.err
