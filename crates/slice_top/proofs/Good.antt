@@ -86,7 +86,7 @@ certified files c core a (goes x h e) good = accepted files c core x (file_of c 
 
 -- ---- decisions
 
-not_countered : (core : Core) (g : Goal) (xs : List ℤ) (a : Answer) → Counters core g xs a → a.status ≡ status.Good → ⊥
+pub not_countered : (core : Core) (g : Goal) (xs : List ℤ) (a : Answer) → Counters core g xs a → a.status ≡ status.Good → ⊥
 not_countered core g xs a (low l e) good = let bad : status.Negative ≡ status.Good = sym (ap (λ (b : Answer). b.status) e) ∙ good in cc
 not_countered core g xs a (high agent atom l e) good = refused_not_good (refusal.HeightLimit g.number agent atom) a e good
 

@@ -64,7 +64,7 @@ module _ (core : Core) (file : List ℕ) (none : CanBeMade core) (short : length
   some_none : (f : GoalFault) → (claim_on core).fault ≡ Some f → ⊥
   some_none f e = let bad : None ≡ Some f = sym none ∙ e in cc
 
-  not_failed : (f : CertFault) → (IsUnread f → ⊥) → Fails (claim_on core) file f → ⊥
+  pub not_failed : (f : CertFault) → (IsUnread f → ⊥) → Fails (claim_on core) file f → ⊥
   not_failed cert_fault.ReadFault u h = u tt
   not_failed cert_fault.TooLong u h = not_past file h.0 short h.2.0
   not_failed cert_fault.GoalLimit u h = some_none _ h.2

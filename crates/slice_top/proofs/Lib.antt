@@ -1,3 +1,4 @@
+pub mod CertifiedReports
 pub mod CheckedFiles
 pub mod Complete
 pub mod Decided
@@ -7,16 +8,19 @@ pub mod Endings
 pub mod Faults
 pub mod Fair
 pub mod FileFaults
+pub mod FittingTables
 pub mod GoalLines
 pub mod GoingOn
 pub mod Good
 pub mod Heights
 pub mod Judged
 pub mod LastLines
+pub mod LinesBack
 pub mod MetRuns
 pub mod Onward
 pub mod Outcomes
 pub mod Replayed
+pub mod Shown
 pub mod SomeAnswers
 pub mod SomeDecisions
 pub mod Stages

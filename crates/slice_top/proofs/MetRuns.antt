@@ -166,6 +166,11 @@ after_negative core report status.Good a (stops r h e) negative = absurd (refuse
 after_negative core report status.Good a (goes n h e) negative = let bad : status.Good ≡ status.Negative = sym (ap (λ (x : Answer). x.status) e) ∙ negative in absurd cc
 after_negative core report s a e negative = (sym (ap (λ (x : Answer). x.status) e) ∙ negative, ap (λ (x : Answer). x.text) e)
 
+-- what is written ends with the line of the counterexample
+last_met : (core : Core) (text : List ℕ) (m : IsMet core text) → last_line text ≡ line_of (counterexample_json core m.g m.xs)
+last_met core text m =
+    ap last_line m.told ∙ line_behind_is_last m.out m.before (counterexample_json core m.g m.xs) (m.lines (line_of (counterexample_json core m.g m.xs)))
+
 met_last : (core : Core) (a : Answer) → IsDemoAnswer core a → a.status ≡ status.Negative → IsMet core a.text
 met_last core a (report, (is, after)) negative =
     let last = after_negative core report.text report.status a after negative in
@@ -179,7 +184,7 @@ met_last core a (report, (is, after)) negative =
       solved = m.solved;
       small = m.small;
       out = [];
-      told = last.1 ∙ ap last_line m.told ∙ line_behind_is_last m.out m.before (counterexample_json core m.g m.xs) (m.lines (line_of (counterexample_json core m.g m.xs)));
+      told = last.1 ∙ last_met core report.text m;
       before = [];
       lines = λ rest. refl;
     }
@@ -202,6 +207,7 @@ pub record IsMetRun (p : PlainProgram) (written : List ℕ) : Type 0 where
   pub ends : EndsAsTold valuations kind query (run_on valuations p answers)
   pub out : List ℕ
   pub told : written ≡ out ++ line_of (counter_json goal kind query valuations answers)
+  pub last : last_line written ≡ line_of (counter_json goal kind query valuations answers)
 
 pub met_run : (text written : List ℕ) (p : PlainProgram) (core : Core) → IsProgramOf text p → IsCoreOf p core → IsMet core written → IsMetRun p written
 met_run text written p core is made m =
@@ -222,6 +228,7 @@ met_run text written p core is made m =
           (told_end vs c.agents own.g.query own.g own.g.kind (core_run_on vs c ys) counter.valuations.one_each counter.goes counter.ends refl (envious_are_agents c own.g own.is_goal));
       out = own.out;
       told = own.told;
+      last = last_met c written own;
     }
 
 module _ (before after : Option (List ℕ)) where

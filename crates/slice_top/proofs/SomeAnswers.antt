@@ -37,29 +37,37 @@ use Rattle.slice_paths.specs.Events.{events_of}
 use Rattle.slice_report.specs.CoreReport.{core_json}
 use Rattle.slice_report.specs.declared.refusal.Refusal.{Refusal}
 use Rattle.slice_report.specs.declared.refusal.Refusal.TheVariants as refusal
-use Rattle.slice_top.specs.Answers.{Answer, answer_of, one_line, refused, Stage, stops, goes, WithFile, WithProgram, WithCore, IsPrintAnswer, IsCheckAnswer, IsPathsAnswer, goals_answer, IsVerifyAnswer, after_text, IsRunAnswer, IsReplayAnswer, IsCertifyAnswer, TellsLeastRun, TellsGivenRun, IsOutcome}
+use Rattle.slice_top.specs.Answers.{Answer, answer_of, one_line, refused, Stage, stops, goes, WithFile, WithProgram, WithCore, OfText, IsPrintAnswer, IsCheckAnswer, IsPathsAnswer, goals_answer, IsVerifyAnswer, after_text, IsRunAnswer, IsReplayAnswer, IsCertifyAnswer, TellsLeastRun, TellsGivenRun, IsOutcome, AfterReport, IsDemoAnswer}
 use Rattle.slice_top.specs.Commands.{check, print, paths, verify, run, replay, certify, demo}
 use Rattle.slice_top.specs.Cores.{RefusesCore, IsCoreOf}
+use Rattle.slice_top.specs.Demos.{AcceptsReport, RefusesReport, last_line, report_name}
 use Rattle.slice_top.specs.FilesRead.{IsFileOf, RefusesFile, limit}
 use Rattle.slice_top.specs.Laws.{AnswersExist}
 use Rattle.slice_top.specs.Programs.{RefusesText}
 use Rattle.slice_top.specs.Runs.{run_refusal, told_status}
 use Rattle.slice_top.specs.Values.{RefusesValues, RefusesReplay, values_refusal}
+use Rattle.slice_top.specs.declared.status.Status.{Status}
 use Rattle.slice_top.specs.declared.status.Status.TheVariants as status
 use Rattle.slice_cert.specs.CertLines.{line_text}
 use Rattle.slice_cert.specs.declared.line.Line.TheVariants.{Header}
-use Rattle.slice_check.specs.Certificate.{claim_on}
+use Rattle.slice_check.specs.Certificate.{Accepts, claim_on}
 use Rattle.slice_check.specs.Faults.{Fails, IsUnread}
 use Rattle.slice_check.specs.Faults.{IsAnswer as CheckAnswer}
 use Rattle.slice_check.specs.declared.answer.CertAnswer.{CertAnswer}
+use Rattle.slice_check.specs.declared.answer.CertAnswer.TheVariants.{Accepted, Rejected}
 use Rattle.slice_check.specs.declared.answer.CertFault.{CertFault}
 use Rattle.slice_check.specs.declared.answer.CertFault.TheVariants as cert_fault
+use Rattle.slice_check.proofs.Exclusive.{rejected_is_no_certificate}
 use Rattle.slice_check.proofs.SomeStop.{files_decided}
+use Rattle.slice_gen.specs.Rounds.{rounds_text}
+use Rattle.slice_report.specs.DemoReport.{demo_json}
+use Rattle.slice_core.specs.WellFormed.{IsWellFormed}
 use Rattle.slice_report.specs.CertifyReport.{certify_json}
 use Rattle.slice_top.specs.Certificates.{SaysOfFile, ChecksFile, RefusesCertificate, missing, given_up, checker_refusal, checked_status}
+use Rattle.slice_top.proofs.CertifiedReports.{good_is_accepted}
 use Rattle.slice_top.proofs.SomeDecisions.{some_end}
 use Rattle.slice_top.proofs.FileFaults.{replay_found, fault_not_memory, replay_fault_not_memory}
-use Rattle.slice_top.proofs.ToldRuns.{least_said, given_said, some_agent}
+use Rattle.slice_top.proofs.ToldRuns.{least_said, given_said, some_agent, core_formed}
 use Rattle.slice_top.proofs.UniqueAnswers.{parsed_of}
 
 abbrev HasAnswer : (Answer → Type 0) → Type 0
@@ -153,6 +161,11 @@ expanded p m (Some f) e = inl (limit_refused p f m e)
 core_found : (text : List ℕ) (p : PlainProgram) → IsProgramOf text p → ((r : Refusal) × RefusesCore p r) ⊎ ((c : Core) × IsCoreOf p c)
 core_found text p is = ⊎_elim (λ m. expanded p m (first_limit p) refl) (λ h. inl (rule_refused p (parsed_of text p is) h.0 h.1)) (first_faults_exist p (parsed_of text p is))
 
+some_of_text : (text : List ℕ) (Next : Core → Answer → Type 0) → ((p : PlainProgram) (c : Core) → IsProgramOf text p → IsCoreOf p c → HasAnswer (Next c)) → HasAnswer (OfText text Next)
+some_of_text text Next next =
+    some_stage (RefusesText text) (IsProgramOf text) (λ p. Stage (RefusesCore p) (IsCoreOf p) Next) (text_found text)
+    (λ p is. some_stage (RefusesCore p) (IsCoreOf p) Next (core_found text p is) (λ c made. next p c is made))
+
 some_core : (files : Files) (f : List ℕ) (Next : Core → Answer → Type 0) → ((text : List ℕ) (p : PlainProgram) (c : Core) → IsProgramOf text p → IsCoreOf p c → HasAnswer (Next c)) → HasAnswer (WithCore (Some files) f Next)
 some_core files f Next next =
     some_program files f (λ p. Stage (RefusesCore p) (IsCoreOf p) Next) (λ text p is. some_stage (RefusesCore p) (IsCoreOf p) Next (core_found text p is) (λ c made. next text p c is made))
@@ -209,15 +222,15 @@ some_given text bytes p c is made =
 
 -- ---- certificates
 
-module _ (files : Files) (name : List ℕ) (core : Core) where
-  checker_refused : (f : CertFault) → (IsUnread f → ⊥) → (r : Refusal) × (checker_refusal name f ≡ Some r)
-  checker_refused cert_fault.ReadFault h = absurd (h tt)
-  checker_refused cert_fault.TooLong h = (refusal.TooLong name, refl)
-  checker_refused cert_fault.GoalLimit h = (refusal.GoalLimit, refl)
-  checker_refused (cert_fault.FormOverflow goal) h = (refusal.FormOverflow goal, refl)
-  checker_refused (cert_fault.Overflow goal unknown) h = (refusal.CheckOverflow goal unknown, refl)
-  checker_refused cert_fault.Memory h = absurd (h tt)
+checker_refused : (name : List ℕ) (f : CertFault) → (IsUnread f → ⊥) → (r : Refusal) × (checker_refusal name f ≡ Some r)
+checker_refused name cert_fault.ReadFault h = absurd (h tt)
+checker_refused name cert_fault.TooLong h = (refusal.TooLong name, refl)
+checker_refused name cert_fault.GoalLimit h = (refusal.GoalLimit, refl)
+checker_refused name (cert_fault.FormOverflow goal) h = (refusal.FormOverflow goal, refl)
+checker_refused name (cert_fault.Overflow goal unknown) h = (refusal.CheckOverflow goal unknown, refl)
+checker_refused name cert_fault.Memory h = absurd (h tt)
 
+module _ (files : Files) (name : List ℕ) (core : Core) where
   -- what is said of its bytes is said of the file
   pub of_file : (bytes : List ℕ) (Says : List ℕ → Type 0) → file_of name files ≡ Some bytes → Says bytes → SaysOfFile (Some files) name Says
   of_file bytes Says e h = record {
@@ -230,29 +243,56 @@ module _ (files : Files) (name : List ℕ) (core : Core) where
   certificate_found (Some bytes) e =
       ⊎_elim
       (λ a. inr (a.0, of_file bytes (λ xs. CheckAnswer (claim_on core) xs a.0) e a.1))
-      (λ f. let r = checker_refused f.0 f.1.0 in inl (r.0, given_up f.0 r.1 (of_file bytes (λ xs. Fails (claim_on core) xs f.0) e f.1.1)))
+      (λ f. let r = checker_refused name f.0 f.1.0 in inl (r.0, given_up f.0 r.1 (of_file bytes (λ xs. Fails (claim_on core) xs f.0) e f.1.1)))
       (files_decided core bytes)
 
   some_certified : HasAnswer (IsCertifyAnswer (Some files) name core)
   some_certified =
       some_stage (RefusesCertificate (Some files) name core) (ChecksFile (Some files) name core) _ (certificate_found (file_of name files) refl) (λ x h. (one_line (certify_json x) (checked_status x), refl))
 
+-- ---- decisions, and reports that are made and checked
+
+some_verified : (core : Core) → HasAnswer (IsVerifyAnswer core)
+some_verified core = let d = some_end core [] (claim_on core).goals refl in (after_text (line_text (Header 1 core.name core.agents)) d.0, (d.0, (d.1, refl)))
+
+module _ (core : Core) (report : List ℕ) (is : Accepts (claim_on core) report) where
+  -- the checker accepts a certificate, or gives it up
+  counts : (x : CertAnswer) → CheckAnswer (claim_on core) report x → (n : ℕ) × AcceptsReport core report n
+  counts (Accepted n) h = (n, h)
+  counts (Rejected r) h = absurd (rejected_is_no_certificate (claim_on core) report r h is)
+
+  report_checked : ((r : Refusal) × RefusesReport core report r) ⊎ ((n : ℕ) × AcceptsReport core report n)
+  report_checked =
+      ⊎_elim
+      (λ a. inr (counts a.0 a.1))
+      (λ f. let r = checker_refused report_name f.0 f.1.0 in inl (r.0, (f.0, (r.1, f.1.1))))
+      (files_decided core report)
+
+some_after : (core : Core) (report : List ℕ) (s : Status) → (s ≡ status.Good → Accepts (claim_on core) report) → HasAnswer (AfterReport core report s)
+some_after core report status.Good h =
+    some_stage (RefusesReport core report) (AcceptsReport core report) _ (report_checked core report (h refl)) (λ n is. (one_line (demo_json core n (length report)) status.Good, refl))
+some_after core report s h = (answer_of (last_line report) s, refl)
+
+some_demo : (text : List ℕ) (p : PlainProgram) (core : Core) → IsProgramOf text p → IsCoreOf p core → HasAnswer (IsDemoAnswer core)
+some_demo text p core is made =
+    let report = some_verified core in
+    let formed : IsWellFormed core = subst IsWellFormed (sym made.same) (core_formed text p core is made) in
+    let a = some_after core report.0.text report.0.status (good_is_accepted core report.0 formed report.1) in
+    (a.0, (report.0, (report.1, a.1)))
+
 -- ---- all commands
 
-some_none : (n : ℕ) → Some n ≡ None → ⊥
-some_none n e = cc
-
 pub some_answer : AnswersExist
-some_answer files None h = (refused refusal.Usage, refl)
-some_answer files (Some (check f)) h = some_core files f IsCheckAnswer (λ text p c is made. (one_line (core_json c) status.Good, refl))
-some_answer files (Some (print f)) h = some_program files f IsPrintAnswer (λ text p is. (answer_of (canonical_text p) status.Good, refl))
-some_answer files (Some (paths f)) h = some_core files f IsPathsAnswer (λ text p c is made. (goals_answer (events_of c) 0, refl))
-some_answer files (Some (verify f)) h =
-    some_core files f IsVerifyAnswer (λ text p c is made. let d = some_end c [] (claim_on c).goals refl in (after_text (line_text (Header 1 c.name c.agents)) d.0, (d.0, (d.1, refl))))
-some_answer files (Some (run f v)) h =
+some_answer files None = (refused refusal.Usage, refl)
+some_answer files (Some (check f)) = some_core files f IsCheckAnswer (λ text p c is made. (one_line (core_json c) status.Good, refl))
+some_answer files (Some (print f)) = some_program files f IsPrintAnswer (λ text p is. (answer_of (canonical_text p) status.Good, refl))
+some_answer files (Some (paths f)) = some_core files f IsPathsAnswer (λ text p c is made. (goals_answer (events_of c) 0, refl))
+some_answer files (Some (verify f)) =
+    some_core files f IsVerifyAnswer (λ text p c is made. some_verified c)
+some_answer files (Some (run f v)) =
     some_core files f (IsRunAnswer (Some files) v) (λ text p c is made. some_file files v (λ bytes. TellsLeastRun bytes c) (λ bytes. some_least text bytes p c is made))
-some_answer files (Some (replay f v)) h =
+some_answer files (Some (replay f v)) =
     some_core files f (IsReplayAnswer (Some files) v) (λ text p c is made. some_file files v (λ bytes. TellsGivenRun bytes c) (λ bytes. some_given text bytes p c is made))
-some_answer files (Some (certify f c)) h =
+some_answer files (Some (certify f c)) =
     some_core files f (IsCertifyAnswer (Some files) c) (λ text p core is made. some_certified files c core)
-some_answer files (Some (demo n)) h = absurd (some_none n h)
+some_answer files (Some (demo n)) = some_of_text (rounds_text n) IsDemoAnswer (λ p c is made. some_demo (rounds_text n) p c is made)

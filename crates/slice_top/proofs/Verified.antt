@@ -41,7 +41,7 @@ use Rattle.slice_top.proofs.SomeDecisions.{is_goal, some_end}
 -- ---- how it ends
 
 -- with the closing line, good; or with a counterexample, negative
-data Ends (n : ℕ) (a : Answer) : Type 0 where
+pub data Ends (n : ℕ) (a : Answer) : Type 0 where
   closed : (out : List ℕ) → a ≡ answer_of (out ++ line_text (Closing n)) status.Good → Ends n a
   countered : a.status ≡ status.Negative → Ends n a
 
@@ -63,7 +63,7 @@ module _ (core : Core) (fit : RunsFit core) (heights : HeightsFit core) where
   ends_of n before (g ∷ gs) a split (AtLimit, (is, e)) = absurd (fits_or_limit g.rows pivot_limit (fit g (is_goal core before gs g split)) is)
   ends_of n before (g ∷ gs) a split (Unfit pivots row col, (is, e)) = absurd (fits_or_unfit g.rows pivot_limit pivots row col (fit g (is_goal core before gs g split)) is)
 
-  ends : CanBeMade core → (a : Answer) → IsVerifyAnswer core a → Ends (length (goals core)) a
+  pub ends : CanBeMade core → (a : Answer) → IsVerifyAnswer core a → Ends (length (goals core)) a
   ends none a (b, (d, e)) =
       let n = length (claim_on core).goals in
       let all : n ≡ length (goals core) = ap length (sym (all_goals core none)) in

@@ -27,12 +27,14 @@ use Rattle.slice_check.specs.declared.answer.Rejection.{Rejection}
 use Rattle.slice_counter.specs.Counter.{IsLow}
 use Rattle.slice_counter.specs.CounterLine.{counter_json}
 use Rattle.slice_verify.specs.Report.{pivot_limit}
+use Rattle.slice_gen.specs.Rounds.{rounds_text}
 use Rattle.slice_report.specs.CertifyReport.{certify_json}
 use Rattle.slice_report.specs.CoreReport.{core_json}
+use Rattle.slice_report.specs.DemoReport.{demo_json}
 use Rattle.slice_report.specs.GoalReport.{count_json, goal_json}
 use Rattle.slice_report.specs.RunReport.{told_json}
-use Rattle.slice_top.specs.Answers.{Answer, IsAnswer, answer_of, one_line}
-use Rattle.slice_top.specs.Commands.{Command, check, print, paths, verify, run, replay, certify}
+use Rattle.slice_top.specs.Answers.{Answer, IsAnswer, IsVerifyAnswer, answer_of, one_line}
+use Rattle.slice_top.specs.Commands.{Command, check, print, paths, verify, run, replay, certify, demo}
 use Rattle.slice_top.specs.Cores.{IsCoreOf}
 use Rattle.slice_top.specs.FilesRead.{IsFileOf}
 use Rattle.slice_top.specs.Found.{EndsAsTold}
@@ -149,6 +151,22 @@ abbrev pub VerifyIsExact : Type 0
 VerifyIsExact =
     (files : Files) (f text : List ℕ) (p : PlainProgram) (a : Answer) → IsFileOf (Some files) f text → IsProgramOf text p → IsAnswer (Some files) (Some (verify f)) a → IsWorked a.status
     → (a.status ≡ status.Good) ↔ EveryRunIsFair p
+
+-- ---- `demo N`
+
+-- the program is shown to be fair, the report of `verify` on it is a certificate, and the line says how many bytes it has and
+-- that it is accepted for all goals; or the line is that of a counterexample, with which a run of the program ends as it tells
+pub data Shows (p : PlainProgram) (core : Core) (report : List ℕ) (a : Answer) : Type 0 where
+  certified : EveryRunIsFair p → Accepts (claim_on core) report → a ≡ one_line (demo_json core (length (goals core)) (length report)) status.Good → Shows p core report a
+  countered :
+      (goal : ℕ) (kind : GoalKind) (query : ℕ) (vs : List Valuation) (ys : List CutAnswer) → IsValuationList p.agents.value vs → EndsAsTold vs kind query (run_on vs p ys)
+      → a ≡ one_line (counter_json goal kind query vs ys) status.Negative → Shows p core report a
+
+-- where moreover the report is within a certificate's limit, and the sums of its multipliers fit
+abbrev pub DemoDecides : Type 0
+DemoDecides =
+    (files : Files) (n : ℕ) (p : PlainProgram) (core : Core) (report a : Answer) → IsProgramOf (rounds_text n) p → IsCoreOf p core → CanBeMade core → RunsFit core → HeightsFit core
+    → IsVerifyAnswer core report → length report.text ≤ file_limit → SumsFit core report.text → IsAnswer (Some files) (Some (demo n)) a → Shows p core report.text a
 
 -- ---- what `top` writes
 

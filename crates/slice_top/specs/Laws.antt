@@ -1,7 +1,7 @@
 -- What the answers to commands say of the protocol in the file: what `run` and `replay` tell is told of its runs, where
 -- the goals that `paths` tells have no solution every run is fair, and each command has one answer.
 use Rattle.std.specs.List.{All}
-use Rattle.std.specs.Prelude.{◌≡◌, ℕ, ℤ, ⊤, List, [], ◌∷◌, ◌++◌, length, slice_get, take, Option, Some, None}
+use Rattle.std.specs.Prelude.{◌≡◌, ℕ, ℤ, ⊤, List, [], ◌∷◌, ◌++◌, length, slice_get, take, Option, Some}
 use Rattle.slice_num.specs.Pieces.{joined}
 use Rattle.slice_num.specs.Valuation.{Valuation}
 use Rattle.slice_num.specs.declared.cut_answer.CutAnswer.{CutAnswer}
@@ -24,7 +24,7 @@ use Rattle.slice_report.specs.EnvyLaws.{TellsEnvy}
 use Rattle.slice_top.specs.Answers.{Answer, IsAnswer}
 use Rattle.slice_top.specs.Commands.{Command}
 use Rattle.slice_top.specs.Cores.{IsCoreOf}
-use Rattle.slice_top.specs.Headline.{EveryRunIsFair, made_rounds, run_on}
+use Rattle.slice_top.specs.Headline.{EveryRunIsFair, run_on}
 
 -- ---- runs of the program
 
@@ -102,6 +102,6 @@ RefutedGoalsMeanFairRuns =
 abbrev pub AnswersAreUnique : Type 0
 AnswersAreUnique = (files : Files) (c : Option Command) (a b : Answer) → IsAnswer (Some files) c a → IsAnswer (Some files) c b → a ≡ b
 
--- and have one, whatever the files hold; of `demo`, which reads none, it isn't said
+-- and have one, whatever the files hold
 abbrev pub AnswersExist : Type 0
-AnswersExist = (files : Files) (c : Option Command) → made_rounds c ≡ None → (a : Answer) × IsAnswer (Some files) c a
+AnswersExist = (files : Files) (c : Option Command) → (a : Answer) × IsAnswer (Some files) c a

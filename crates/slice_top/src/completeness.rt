@@ -1,7 +1,7 @@
 //! When each command comes to an end of its work, whatever else the files hold: laws of the definitions that
 //! [`top`](crate::top)'s contract rests on, faults of devices and want of memory aside. No function does anything: its clauses
 //! are the laws.
-ghost use Rattle.slice_top.specs.Completeness.{CertifyJudges, CheckGivesTheCounts, PathsGivesTheGoals, PrintGivesTheText, ReplayTellsARunInRange, ReportsTellAnswers, RunTellsARunInRange, VerifyDecides, VerifyIsExact};
+ghost use Rattle.slice_top.specs.Completeness.{CertifyJudges, CheckGivesTheCounts, DemoDecides, PathsGivesTheGoals, PrintGivesTheText, ReplayTellsARunInRange, ReportsTellAnswers, RunTellsARunInRange, VerifyDecides, VerifyIsExact};
 
 use slice_parse::parsings_are_unique;
 
@@ -60,6 +60,15 @@ pub fn verify_decides()
 /// is fair.
 pub fn verify_is_exact()
     ensures { VerifyIsExact }
+{
+    parsings_are_unique();
+}
+
+/// `demo N` says that the report of `verify` on the protocol of N rounds is accepted for all goals, and how many bytes it has, or
+/// writes the line of a counterexample, where that protocol has a core, `verify` decides so, and the report is within a
+/// certificate's limit and the sums of its multipliers fit.
+pub fn demo_decides()
+    ensures { DemoDecides }
 {
     parsings_are_unique();
 }

@@ -36,7 +36,7 @@ pub fn answers_are_unique()
     parsings_are_unique();
 }
 
-/// Files and a command have an answer, whatever the files hold; of `demo` it isn't shown.
+/// Files and a command have an answer, whatever the files hold.
 pub fn answers_exist()
     ensures { AnswersExist }
 {}
