@@ -1,10 +1,9 @@
 -- What each command answers where its files keep their forms, no limit is passed, and numbers fit.
-use Rattle.std.specs.Prelude.{◌≡◌, ◌≢◌, ◌↔◌, ℕ, ◌<◌, ◌≤◌, ℤ, ⊤, List, [], ◌∷◌, ◌++◌, length, Some, None, Option}
+use Rattle.std.specs.Prelude.{◌≡◌, ◌↔◌, ℕ, ◌<◌, ◌≤◌, ℤ, ⊤, List, [], ◌∷◌, ◌++◌, length, Some, None}
 use Rattle.std.specs.List.{Contains}
 use Rattle.slice_num.specs.Valuation.{Valuation, IsValuationList}
 use Rattle.slice_num.specs.declared.cut_answer.CutAnswer.{CutAnswer}
 use Rattle.slice_io.specs.Files.{Files, file_of}
-use Rattle.slice_io.specs.Told.{appended}
 use Rattle.slice_json.specs.Texts.{line_of}
 use Rattle.slice_ast.specs.Code.{PlainProgram}
 use Rattle.slice_ast.specs.Layout.{canonical_text}
@@ -34,17 +33,15 @@ use Rattle.slice_report.specs.DemoReport.{demo_json}
 use Rattle.slice_report.specs.GoalReport.{count_json, goal_json}
 use Rattle.slice_report.specs.RunReport.{told_json}
 use Rattle.slice_top.specs.Answers.{Answer, IsAnswer, IsVerifyAnswer, answer_of, one_line}
-use Rattle.slice_top.specs.Commands.{Command, check, print, paths, verify, run, replay, certify, demo}
+use Rattle.slice_top.specs.Commands.{check, print, paths, verify, run, replay, certify, demo}
 use Rattle.slice_top.specs.Cores.{IsCoreOf}
 use Rattle.slice_top.specs.FilesRead.{IsFileOf}
 use Rattle.slice_top.specs.Found.{EndsAsTold}
 use Rattle.slice_top.specs.Headline.{EveryRunIsFair, run_on}
 use Rattle.slice_top.specs.Laws.{IsToldOf, IsToldOfLeast}
-use Rattle.slice_top.specs.Reports.{Reports}
 use Rattle.slice_top.specs.Runs.{told_status}
 use Rattle.slice_top.specs.Statuses.{IsWorked}
 use Rattle.slice_top.specs.Turns.{HoldsProgram}
-use Rattle.slice_top.specs.declared.status.Status.{Status}
 use Rattle.slice_top.specs.declared.status.Status.TheVariants as status
 
 -- a file of that name is there, isn't too long, and spells this program, which keeps the rules and passes no limit of
@@ -167,11 +164,3 @@ abbrev pub DemoDecides : Type 0
 DemoDecides =
     (files : Files) (n : ℕ) (p : PlainProgram) (core : Core) (report a : Answer) → IsProgramOf (rounds_text n) p → IsCoreOf p core → CanBeMade core → RunsFit core → HeightsFit core
     → IsVerifyAnswer core report → length report.text ≤ file_limit → SumsFit core report.text → IsAnswer (Some files) (Some (demo n)) a → Shows p core report.text a
-
--- ---- what `top` writes
-
--- unless a device failed or memory was wanted, what is out after a report, and its status, are those of an answer
-abbrev pub ReportsTellAnswers : Type 0
-ReportsTellAnswers =
-    (told : Option Files) (c : Option Command) (before after : Option (List ℕ)) (s : Status) → Reports told c before after s → s ≢ status.ReadFault → s ≢ status.WriteFault → s ≢ status.Memory
-    → (a : Answer) × (IsAnswer told c a × ((after ≡ appended before a.text) × (s ≡ a.status)))

@@ -1,7 +1,7 @@
 //! When each command comes to an end of its work, whatever else the files hold: laws of the definitions that
-//! [`top`](crate::top)'s contract rests on, faults of devices and want of memory aside. No function does anything: its clauses
-//! are the laws.
-ghost use Rattle.slice_top.specs.Completeness.{CertifyJudges, CheckGivesTheCounts, DemoDecides, PathsGivesTheGoals, PrintGivesTheText, ReplayTellsARunInRange, ReportsTellAnswers, RunTellsARunInRange, VerifyDecides, VerifyIsExact};
+//! [`top`](crate::top)'s contract rests on, faults of devices and want of memory aside: its clause `answered` says that what it
+//! writes is an answer, and these laws say which. No function does anything: its clauses are the laws.
+ghost use Rattle.slice_top.specs.Completeness.{CertifyJudges, CheckGivesTheCounts, DemoDecides, PathsGivesTheGoals, PrintGivesTheText, ReplayTellsARunInRange, RunTellsARunInRange, VerifyDecides, VerifyIsExact};
 
 use slice_parse::parsings_are_unique;
 
@@ -72,9 +72,3 @@ pub fn demo_decides()
 {
     parsings_are_unique();
 }
-
-/// Unless a device failed or memory was wanted, the bytes of a report and its status, by which [`top`](crate::top) tells what it
-/// writes, are those of an answer: so each of these laws says what `top` writes.
-pub fn reports_tell_answers()
-    ensures { ReportsTellAnswers }
-{}

@@ -6,6 +6,7 @@ ghost use Rattle.slice_io.specs.Files.{Files};
 ghost use Rattle.slice_io.specs.Told.{appended, FrontIsOut};
 ghost use Rattle.slice_gen.specs.Rounds.{rounds_text};
 ghost use Rattle.slice_report.specs.Refusals.{HasTexts};
+ghost use Rattle.slice_top.specs.Answers.{Answer, IsAnswer};
 ghost use Rattle.slice_top.specs.Commands.{command_of};
 ghost use Rattle.slice_top.specs.Found.{HoldsUnfairProgram, IsUnfairText, met_file};
 ghost use Rattle.slice_top.specs.Headline.{HoldsFairProgram, IsFairText, made_rounds, shown_file};
@@ -163,6 +164,10 @@ pub fn top<S: Shelf, K: Sink>(
     // What is written, and the status: the answer over the files that the shelf tells, or over some bytes of each where it
     // tells none.
     ensures report { Reports (S.told shelf.old) (command_of (map string_bytes words.now.items)) (K.told sink.old) (K.told sink.new) result }
+
+    // Unless a device failed or memory was wanted, that is an answer, whole; the laws of completeness say which.
+    ensures answered { result ≢ Status.ReadFault → result ≢ Status.WriteFault → result ≢ Status.Memory → (a : Answer)
+        × (IsAnswer (S.told shelf.old) (command_of (map string_bytes words.now.items)) a × ((K.told sink.new ≡ appended (K.told sink.old) a.text) × (result ≡ a.status))) }
 
     // The headline: where `verify F` or `certify F C` ends with Good, whoever wrote C, every run of the protocol in F is fair.
     ensures headline { result ≡ Status.Good → (files : Files) → S.told shelf.old ≡ Some files → IfSome (shown_file (command_of (map string_bytes words.now.items))) (HoldsFairProgram files) }

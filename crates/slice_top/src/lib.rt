@@ -24,8 +24,8 @@ mod work;
 
 pub use completeness::{
     certify_judges, check_gives_the_counts, demo_decides, paths_gives_the_goals,
-    print_gives_the_text, replay_tells_a_run_in_range, reports_tell_answers,
-    run_tells_a_run_in_range, verify_decides, verify_is_exact,
+    print_gives_the_text, replay_tells_a_run_in_range, run_tells_a_run_in_range, verify_decides,
+    verify_is_exact,
 };
 pub use ending::{end_for_memory, top};
 pub use laws::{

@@ -6,6 +6,7 @@ use Rattle.slice_top.specs.declared.status.Status.TheVariants as status
 use Rattle.slice_top.proofs.Endings.{last_report, starved_whole, unwritten_report, written_apart}
 use Rattle.slice_top.proofs.Good.{good_demos, good_reports}
 use Rattle.slice_top.proofs.MetRuns.{met_demos, met_reports}
+use Rattle.slice_top.proofs.Onward.{reports_tell_answers}
 use Rattle.slice_top.proofs.ending.top.Goals as goal
 
 pub returns-in-Last-clause-report : goal.returns-in-Last-clause-report
@@ -28,6 +29,18 @@ pub returns-in-Unwritten-clause-report : goal.returns-in-Unwritten-clause-report
 returns-in-Unwritten-clause-report g c =
     let h = rw c.in-Unwritten.is at c.settle.ensures.settled in
     unwritten_report (g.S.Shelf.told c.args.shelf.now) (command_of (map string_bytes c.args.words.now.items)) (g.K.Sink.told c.args.sink.now) (g.K.Sink.told c.settle.new.sink) h.0
+
+pub returns-in-Last-clause-answered : goal.returns-in-Last-clause-answered
+returns-in-Last-clause-answered g c =
+    reports_tell_answers (g.S.Shelf.told c.args.shelf.now) (command_of (map string_bytes c.args.words.now.items)) (g.K.Sink.told c.args.sink.now) (g.K.Sink.told c.finish.new.sink) c.finish.result (returns-in-Last-clause-report g c)
+
+pub returns-in-Starved-clause-answered : goal.returns-in-Starved-clause-answered
+returns-in-Starved-clause-answered g c =
+    reports_tell_answers (g.S.Shelf.told c.args.shelf.now) (command_of (map string_bytes c.args.words.now.items)) (g.K.Sink.told c.args.sink.now) (g.K.Sink.told c.finish-in-Starved.new.sink) c.finish-in-Starved.result (returns-in-Starved-clause-report g c)
+
+pub returns-in-Unwritten-clause-answered : goal.returns-in-Unwritten-clause-answered
+returns-in-Unwritten-clause-answered g c =
+    reports_tell_answers (g.S.Shelf.told c.args.shelf.now) (command_of (map string_bytes c.args.words.now.items)) (g.K.Sink.told c.args.sink.now) (g.K.Sink.told c.settle.new.sink) status.WriteFault (returns-in-Unwritten-clause-report g c)
 
 pub returns-in-Last-clause-headline : goal.returns-in-Last-clause-headline
 returns-in-Last-clause-headline g c =
