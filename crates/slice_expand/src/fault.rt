@@ -1,4 +1,7 @@
 //! Why a program has no core.
+ghost use Rattle.std.specs.Prelude.{◌≡◌};
+ghost use Rattle.slice_expand.specs.declared.fault.ExpandFault.TheVariants as fault;
+
 use slice_num::Memory;
 use std::alloc::{AllocError, AllocFailed};
 use thiserror::Error;
@@ -24,18 +27,24 @@ pub enum ExpandFault {
 }
 
 impl From<Memory> for ExpandFault {
+    ghost from_gives = { λ _ e. e ≡ fault.Memory };
+
     fn from(_error: Memory) -> ExpandFault {
         ExpandFault::Memory
     }
 }
 
 impl From<AllocError> for ExpandFault {
+    ghost from_gives = { λ _ e. e ≡ fault.Memory };
+
     fn from(_error: AllocError) -> ExpandFault {
         ExpandFault::Memory
     }
 }
 
 impl<T: Drop> From<AllocFailed<T>> for ExpandFault {
+    ghost from_gives = { λ _ e. e ≡ fault.Memory };
+
     fn from(_error: AllocFailed<T>) -> ExpandFault {
         ExpandFault::Memory
     }
