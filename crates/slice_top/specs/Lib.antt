@@ -10,6 +10,7 @@ pub mod Found
 pub mod Goals
 pub mod Headline
 pub mod Laws
+pub mod Lines
 pub mod Programs
 pub mod ReplayLaw
 pub mod Reports

@@ -10,6 +10,7 @@ ghost use Rattle.slice_top.specs.Answers.{Answer, IsAnswer};
 ghost use Rattle.slice_top.specs.Commands.{command_of};
 ghost use Rattle.slice_top.specs.Found.{HoldsUnfairProgram, IsUnfairText, met_file};
 ghost use Rattle.slice_top.specs.Headline.{HoldsFairProgram, IsFairText, made_rounds, shown_file};
+ghost use Rattle.slice_top.specs.Lines.{first_end, first_line_length};
 ghost use Rattle.slice_top.specs.Turns.{ReadsFor};
 ghost use Rattle.slice_top.specs.Reports.{Reports, memory_line};
 ghost use Rattle.slice_top.specs.Statuses.{IsUsageOrFree};
@@ -72,12 +73,21 @@ fn refused(alloc: Global, refusal: &Refusal) -> Ending
     })
 }
 
+// Where the first LF stands.
+fn line_end(bytes: &[u8]) -> Option<usize>
+    ensures within { IfSome result (λ at. at < length bytes.now) }
+    ensures first { result ≡ first_end bytes.now }
+{
+    bytes.iter().position(|byte| *byte == b'\n')
+}
+
 // How many bytes the first line has, with its LF, where it has one.
 fn line_length(bytes: &[u8]) -> usize
     ensures within { result ≤ length bytes.now }
     ensures some { 0 < length bytes.now → 0 < result }
+    ensures line { result ≡ first_line_length bytes.now }
 {
-    match bytes.iter().position(|byte| *byte == b'\n') {
+    match line_end(bytes) {
         Some(at) => at + 1,
         None => bytes.len(),
     }
