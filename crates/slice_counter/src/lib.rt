@@ -10,6 +10,3 @@ mod walk;
 
 pub use counter::{CounterFault, Counterexample, build};
 pub use line::counter_line;
-
-#[cfg(test)]
-mod tests;

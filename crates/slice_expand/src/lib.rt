@@ -15,6 +15,3 @@ mod whole;
 pub use fault::ExpandFault;
 pub use slice_core::Core;
 pub use whole::expand;
-
-#[cfg(test)]
-mod tests;

@@ -13,6 +13,3 @@ mod sums;
 
 pub use laws::{parsings_are_unique, parsings_exist};
 pub use parser::{ParseFault, parse};
-
-#[cfg(test)]
-mod tests;

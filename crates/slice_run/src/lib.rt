@@ -21,6 +21,3 @@ pub use laws::{
 pub use outcome::{Finish, Outcome, RunFault};
 pub use run::{replay, run_least};
 pub use slice_core::{CutAnswer, Query, QueryKind};
-
-#[cfg(test)]
-mod tests;

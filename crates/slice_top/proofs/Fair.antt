@@ -1,11 +1,11 @@
 -- Where no goal of a program's core has rows with a solution, every run of the program is fair.
-use Rattle.std.proofs.Common.{◌≡◌, ◌∙◌, ℕ, ◌++◌, List, [], length, get_or, refl, ap, sym, subst}
+use Rattle.std.proofs.Common.{◌≡◌, ◌∙◌, ℕ, ◌++◌, List, [], length, refl, ap, sym, subst}
 use Rattle.std.specs.List.{All}
 use Rattle.slice_num.specs.Valuation.{Valuation, IsValuationList}
 use Rattle.slice_num.specs.declared.cut_answer.CutAnswer.{CutAnswer}
 use Rattle.slice_ast.specs.Code.{PlainProgram}
+use Rattle.slice_parse.specs.Laws.{IsProgramOf}
 use Rattle.slice_linear.specs.Rows.{HaveNoSolution}
-use Rattle.slice_linear.proofs.Motzkin.{refuted_rows_have_no_solution}
 use Rattle.slice_core.specs.Agents.{IsAgent}
 use Rattle.slice_core.specs.Division.{IsDivision, IsFair}
 use Rattle.slice_core.specs.Measures.{worth_of, length_of}
@@ -22,10 +22,10 @@ use Rattle.slice_expand.specs.Kept.{without_trace}
 use Rattle.slice_expand.specs.ProgramRun.{Few}
 use Rattle.slice_run.specs.RunLaws.{run_on as core_run_on}
 use Rattle.slice_run.proofs.Follows.{IsOver}
+use Rattle.slice_top.specs.Cores.{IsCoreOf}
 use Rattle.slice_top.specs.Headline.{IsFairEnd, IsDoneEnd, EveryRunIsFair, run_on}
-use Rattle.slice_top.specs.Laws.{UnsolvedGoalsMeanFairRuns, RefutedGoalsMeanFairRuns}
 use Rattle.slice_top.proofs.GoingOn.{CanEnd, core_goes_on, IsUnrefused, core_unrefused}
-use Rattle.slice_top.proofs.ToldRuns.{core_formed, kept}
+use Rattle.slice_top.proofs.CoreRuns.{core_formed, kept}
 
 -- a core's run that is fair and divides the cake ends the program's run so
 fair_end : (vs : List Valuation) (n l : ℕ) (e : Ending) → length vs ≡ n → IsFair n (worth_of vs) e → IsDivision l e → IsFairEnd vs (without_trace e)
@@ -82,10 +82,6 @@ module _ (p : PlainProgram) (formed : IsWellFormed (core_of p)) (none : All (λ 
   pub every_fair : EveryRunIsFair p
   every_fair = record { fair = every_run; some = some_run; on = run_goes_on }
 
-pub unsolved_fair : UnsolvedGoalsMeanFairRuns
+pub unsolved_fair : (text : List ℕ) (p : PlainProgram) (c : Core) → IsProgramOf text p → IsCoreOf p c → All (λ (g : Goal). HaveNoSolution g.rows) (goals c) → EveryRunIsFair p
 unsolved_fair text p c is made none =
     every_fair p (core_formed text p c is made) (subst (λ (c : Core). All (λ (g : Goal). HaveNoSolution g.rows) (goals c)) made.same none)
-
-pub refuted_fair : RefutedGoalsMeanFairRuns
-refuted_fair text p c is made refuted =
-    unsolved_fair text p c is made (λ i g l. let h = refuted i g l in refuted_rows_have_no_solution (get_or (goals c) i g).rows h.0 h.1)

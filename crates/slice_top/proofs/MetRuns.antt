@@ -59,7 +59,7 @@ use Rattle.slice_top.specs.declared.status.Status.TheVariants as status
 use Rattle.slice_top.proofs.Good.{there_is}
 use Rattle.slice_top.proofs.LastLines.{line_behind_is_last}
 use Rattle.slice_top.proofs.SomeDecisions.{is_goal, long_solution}
-use Rattle.slice_top.proofs.ToldRuns.{core_formed, kept}
+use Rattle.slice_top.proofs.CoreRuns.{core_formed, kept}
 
 -- ---- how the run ends
 

@@ -1,7 +1,6 @@
 pub mod Answers
 pub mod Certificates
 pub mod Commands
-pub mod Completeness
 pub mod Cores
 pub mod Decisions
 pub mod Demos
@@ -9,10 +8,8 @@ pub mod FilesRead
 pub mod Found
 pub mod Goals
 pub mod Headline
-pub mod Laws
 pub mod Lines
 pub mod Programs
-pub mod ReplayLaw
 pub mod Reports
 pub mod Runs
 pub mod Settled

@@ -6,7 +6,7 @@ use Rattle.slice_top.specs.declared.status.Status.TheVariants as status
 use Rattle.slice_top.proofs.Endings.{last_report, starved_whole, unwritten_report, written_apart}
 use Rattle.slice_top.proofs.Good.{good_demos, good_reports}
 use Rattle.slice_top.proofs.MetRuns.{met_demos, met_reports}
-use Rattle.slice_top.proofs.Onward.{reports_tell_answers}
+use Rattle.slice_top.proofs.Answered.{reports_tell_answers}
 use Rattle.slice_top.proofs.ending.top.Goals as goal
 
 pub returns-in-Last-clause-report : goal.returns-in-Last-clause-report

@@ -1,0 +1,16 @@
+mod CertifiedReports
+mod Complete
+mod EnvyPairs
+mod FileFaults
+mod FittingTables
+mod Heights
+mod Judged
+mod LinesBack
+mod Onward
+mod Refuted
+mod Replayed
+mod Shown
+mod SomeAnswers
+mod ToldRuns
+mod UniqueAnswers
+mod Verified

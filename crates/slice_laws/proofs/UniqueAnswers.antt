@@ -1,0 +1,276 @@
+-- Files and a command have one answer.
+use Rattle.std.proofs.Common.{◌≡◌, ◌≢◌, ◌∙◌, ℕ, ◌<◌, inl, inr, List, [], ◌∷◌, length, Option, Some, None, sym, refl, ap, subst, arith}
+use Rattle.slice_num.specs.Valuation.{Valuation}
+use Rattle.slice_io.specs.Files.{Files, file_of, told_file, IsFile}
+use Rattle.slice_ast.specs.Code.{PlainProgram}
+use Rattle.slice_parse.specs.declared.parser.ParseFault.{ParseFault}
+use Rattle.slice_parse.specs.declared.parser.ParseFault.TheVariants as parser
+use Rattle.slice_parse.specs.Laws.{IsProgramOf, ReadProgramsAreUnique}
+use Rattle.slice_parse.proofs.Unique.{faults_unique, faulty_apart}
+use Rattle.slice_affine.specs.Conditions.{IsParsed}
+use Rattle.slice_affine.proofs.ReadLemmas.{read_rises}
+use Rattle.slice_affine.proofs.UniqueLemmas.{first_faults_unique}
+use Rattle.slice_core.specs.Tree.{Core}
+use Rattle.slice_step.specs.ValuationFile.{IsValuationFile, IsReplayFile}
+use Rattle.slice_step.proofs.OneAnswer.{one_list}
+use Rattle.slice_num.specs.declared.cut_answer.CutAnswer.{CutAnswer}
+use Rattle.slice_run.specs.declared.outcome.RunFault.{RunFault}
+use Rattle.slice_run.specs.Walk.{Told, Walked, Good, Refused, outcome, Least, Given}
+use Rattle.slice_report.specs.declared.refusal.Refusal.{Refusal}
+use Rattle.slice_report.specs.declared.refusal.Refusal.TheVariants.{ReadFault, TooLong, HeightLimit}
+use Rattle.slice_check.specs.Certificate.{claim_on}
+use Rattle.slice_check.specs.Faults.{IsUnread}
+use Rattle.slice_check.specs.declared.answer.CertAnswer.{CertAnswer}
+use Rattle.slice_check.specs.declared.answer.CertAnswer.TheVariants.{Accepted}
+use Rattle.slice_check.specs.declared.answer.CertFault.{CertFault}
+use Rattle.slice_check.proofs.OneStop.{one_fault, one_answer, answer_or_fault}
+use Rattle.slice_top.specs.Certificates.{SaysOfFile, ChecksFile, RefusesCertificate, missing, given_up, checker_refusal}
+use Rattle.slice_top.specs.Answers.{Answer, refused, Stage, stops, goes, WithFile, WithProgram, WithCore, IsPrintAnswer, IsCheckAnswer, IsPathsAnswer, IsRunAnswer, IsReplayAnswer, IsCertifyAnswer, Counters, low, high, Follows, Closes, DecidesAll, IsVerifyAnswer, after_text, TellsLeastRun, TellsGivenRun, IsOutcome, OfText, CountsReport, AfterReport, IsDemoAnswer}
+use Rattle.slice_top.specs.Commands.{check, print, paths, verify, run, replay, certify, demo}
+use Rattle.slice_top.specs.Cores.{RefusesCore, IsCoreOf, rule_refusal, limit_refusal}
+use Rattle.slice_top.specs.Demos.{AcceptsReport, RefusesReport, report_name}
+use Rattle.slice_top.specs.FilesRead.{IsFileOf, RefusesFile}
+use Rattle.slice_laws.specs.Laws.{AnswersAreUnique}
+use Rattle.slice_top.specs.Programs.{RefusesText, text_refusal}
+use Rattle.slice_top.specs.Runs.{RefusesRun, run_refusal}
+use Rattle.slice_laws.proofs.FileFaults.{values_apart, replay_apart, replay_same}
+use Rattle.std.specs.Prelude.{ℤ}
+use Rattle.slice_atoms.specs.Addresses.{atom_count}
+use Rattle.slice_paths.specs.Goals.{Goal}
+use Rattle.slice_paths.specs.Ways.{way_of}
+use Rattle.slice_paths.specs.declared.goal.GoalFault.{GoalFault}
+use Rattle.slice_simplex.specs.ProverAnswer.{ProverAnswer, RefutedBy, SolvedBy, AtLimit, Unfit}
+use Rattle.slice_simplex.proofs.Once.{answer_is_one}
+use Rattle.slice_cert.specs.CertLines.{line_text}
+use Rattle.slice_cert.specs.declared.line.Line.TheVariants.{Header, Refutation}
+use Rattle.slice_verify.specs.Report.{pivot_limit}
+use Rattle.slice_gen.specs.Rounds.{rounds_text}
+use Rattle.slice_top.specs.declared.status.Status.{Status}
+use Rattle.slice_top.specs.declared.status.Status.TheVariants as status
+use Rattle.slice_laws.proofs.Heights.{not_both_heights, one_height}
+use Rattle.slice_top.proofs.CheckedFiles.{not_refused}
+use Rattle.slice_laws.proofs.ToldRuns.{some_agent}
+use Rattle.slice_top.specs.Values.{RefusesValues, RefusesReplay, values_refusal}
+
+-- what comes next has one answer
+abbrev One : (Answer → Type 0) → Type 0
+One Next = (a b : Answer) → Next a → Next b → a ≡ b
+
+-- a stage has one answer, where it has one refusal, or gives one thing, and never both
+stage_one : {X : Type 0} (Cause : Refusal → Type 0) (Gives : X → Type 0) (Next : X → Answer → Type 0)
+    → ((r s : Refusal) → Cause r → Cause s → r ≡ s) → ((r : Refusal) (x : X) → Cause r → Gives x → ⊥) → ((x y : X) → Gives x → Gives y → x ≡ y) → ((x : X) → Gives x → One (Next x)) → One (Stage Cause Gives Next)
+stage_one Cause Gives Next one apart same next a b (stops r h e) (stops s k f) = e ∙ ap refused (one r s h k) ∙ sym f
+stage_one Cause Gives Next one apart same next a b (stops r h e) (goes y k f) = absurd (apart r y h k)
+stage_one Cause Gives Next one apart same next a b (goes x h e) (stops s k f) = absurd (apart s x k h)
+stage_one Cause Gives Next one apart same next a b (goes x h e) (goes y k f) = next x h a b e (subst (λ z. Next z b) (sym (same x y h k)) f)
+
+-- ---- faults and refusals
+
+some_same : {A : Type 0} {x y : A} → Some x ≡ Some y → x ≡ y
+some_same e = cc
+
+none_some : {A : Type 0} {x : A} → None ≡ Some x → ⊥
+none_some e = cc
+
+-- one fault has one refusal
+one_refusal : {F : Type 0} (refusal : F → Option Refusal) (f g : F) (r s : Refusal) → f ≡ g → refusal f ≡ Some r → refusal g ≡ Some s → r ≡ s
+one_refusal refusal f g r s e h k = some_same (sym h ∙ ap refusal e ∙ k)
+
+-- ---- files
+
+missing_apart : (o : Option (Option (List ℕ))) (bytes : List ℕ) → o ≡ Some None → IsFile o bytes → ⊥
+missing_apart o bytes e h = subst (λ (x : Option (Option (List ℕ))). IsFile x bytes) e h
+
+file_same : (o : Option (List ℕ)) (xs ys : List ℕ) → IsFile (Some o) xs → IsFile (Some o) ys → xs ≡ ys
+file_same None xs ys h k = absurd h
+file_same (Some bytes) xs ys h k = h ∙ sym k
+
+module _ (files : Files) (name : List ℕ) where
+  one_file_refusal : (r s : Refusal) → RefusesFile (Some files) name r → RefusesFile (Some files) name s → r ≡ s
+  one_file_refusal (ReadFault f) (ReadFault g) h k = ap ReadFault (h.0 ∙ sym k.0)
+  one_file_refusal (ReadFault f) (TooLong g) h k = absurd (missing_apart (told_file (Some files) name) (k.1).bytes h.1 (k.1).there)
+  one_file_refusal (ReadFault f) s h k = absurd k
+  one_file_refusal (TooLong f) (ReadFault g) h k = absurd (missing_apart (told_file (Some files) name) (h.1).bytes k.1 (h.1).there)
+  one_file_refusal (TooLong f) (TooLong g) h k = ap TooLong (h.0 ∙ sym k.0)
+  one_file_refusal (TooLong f) s h k = absurd k
+  one_file_refusal r s h k = absurd h
+
+  file_apart : (r : Refusal) (bytes : List ℕ) → RefusesFile (Some files) name r → IsFileOf (Some files) name bytes → ⊥
+  file_apart (ReadFault f) bytes h k = missing_apart (told_file (Some files) name) bytes h.1 k.there
+  file_apart (TooLong f) bytes h k =
+      let long = h.1 in
+      let same : length long.bytes ≡ length bytes = ap length (file_same (file_of name files) long.bytes bytes long.there k.there) in
+      omega (arith, long.long, k.short, same)
+  file_apart r bytes h k = absurd h
+
+  file_one : (Next : List ℕ → Answer → Type 0) → ((bytes : List ℕ) → One (Next bytes)) → One (WithFile (Some files) name Next)
+  file_one Next next =
+      stage_one (RefusesFile (Some files) name) (IsFileOf (Some files) name) Next one_file_refusal file_apart (λ x y h k. file_same (file_of name files) x y h.there k.there) (λ x h. next x)
+
+-- ---- texts
+
+own : (f : ParseFault) (r : Refusal) → text_refusal f ≡ Some r → f ≢ parser.Memory
+own f r h e = none_some (sym (ap text_refusal e) ∙ h)
+
+one_text_refusal : (text : List ℕ) (r s : Refusal) → RefusesText text r → RefusesText text s → r ≡ s
+one_text_refusal text r s (f, (h, is)) (g, (k, same)) =
+    one_refusal text_refusal f g r s (faults_unique text f g (record { own = own f r h; first = is }) (record { own = own g s k; first = same })) h k
+
+text_apart : (text : List ℕ) (r : Refusal) (p : PlainProgram) → RefusesText text r → IsProgramOf text p → ⊥
+text_apart text r p (f, (h, is)) k = faulty_apart text f p (record { own = own f r h; first = is }) k.spelled
+
+text_one : ReadProgramsAreUnique → (text : List ℕ) (Next : PlainProgram → Answer → Type 0) → ((p : PlainProgram) → IsProgramOf text p → One (Next p)) → One (Stage (RefusesText text) (IsProgramOf text) Next)
+text_one once text Next next = stage_one (RefusesText text) (IsProgramOf text) Next (one_text_refusal text) (text_apart text) (once text) next
+
+program_one : ReadProgramsAreUnique → (files : Files) (f : List ℕ) (Next : PlainProgram → Answer → Type 0) → ((text : List ℕ) (p : PlainProgram) → IsProgramOf text p → One (Next p)) → One (WithProgram (Some files) f Next)
+program_one once files f Next next = file_one files f _ (λ text. text_one once text Next (next text))
+
+-- ---- cores
+
+pub parsed_of : (text : List ℕ) (p : PlainProgram) → IsProgramOf text p → IsParsed p
+parsed_of text p is = record { spellable = is.spelled.spellable; limits = is.spelled.within; places = read_rises text p is.read }
+
+module _ (p : PlainProgram) (parsed : IsParsed p) where
+  one_core_refusal : (r s : Refusal) → RefusesCore p r → RefusesCore p s → r ≡ s
+  one_core_refusal r s (inl (f, (h, is))) (inl (g, (k, same))) = one_refusal rule_refusal f g r s (first_faults_unique p parsed f g is same) h k
+  one_core_refusal r s (inl (f, (h, is))) (inr k) = absurd (k.rules f is.stands)
+  one_core_refusal r s (inr h) (inl (g, (k, same))) = absurd (h.rules g same.stands)
+  one_core_refusal r s (inr h) (inr k) = one_refusal limit_refusal h.fault k.fault r s (some_same (sym h.first ∙ k.first)) h.told k.told
+
+  core_apart : (r : Refusal) (c : Core) → RefusesCore p r → IsCoreOf p c → ⊥
+  core_apart r c (inl (f, (h, is))) k = k.rules f is.stands
+  core_apart r c (inr h) k = none_some (sym k.limits ∙ h.first)
+
+  core_one : (Next : Core → Answer → Type 0) → ((c : Core) → IsCoreOf p c → One (Next c)) → One (Stage (RefusesCore p) (IsCoreOf p) Next)
+  core_one Next next = stage_one (RefusesCore p) (IsCoreOf p) Next one_core_refusal core_apart (λ c d h k. h.same ∙ sym k.same) next
+
+with_core_one : ReadProgramsAreUnique → (files : Files) (f : List ℕ) (Next : Core → Answer → Type 0) → ((c : Core) → 0 < c.agents → One (Next c)) → One (WithCore (Some files) f Next)
+with_core_one once files f Next next = program_one once files f _ (λ text p is. core_one p (parsed_of text p is) Next (λ c made. next c (some_agent text p c is made)))
+
+-- ---- runs
+
+told_is : {a b c : Answer} → a ≡ c → b ≡ c → a ≡ b
+told_is e f = e ∙ sym f
+
+good_same : {t u : Told} → Good t ≡ Good u → t ≡ u
+good_same e = cc
+
+refused_same : {w : Walked Told} {f g : RunFault} → w ≡ Refused f → w ≡ Refused g → f ≡ g
+refused_same e k = cc
+
+good_refused : {t : Told} {f : RunFault} → Good t ≡ Refused f → ⊥
+good_refused e = cc
+
+outcome_one : (w : Walked Told) → One (IsOutcome w)
+outcome_one w =
+    stage_one (RefusesRun w) (λ (t : Told). w ≡ Good t) _ (λ r s h k. one_refusal run_refusal h.0 k.0 r s (refused_same h.1.1 k.1.1) h.1.0 k.1.0)
+    (λ r t h k. good_refused (sym k ∙ h.1.1)) (λ t u h k. good_same (sym h ∙ k)) (λ t h a b e f. told_is e f)
+
+least_one : (bytes : List ℕ) (core : Core) → 0 < core.agents → One (TellsLeastRun bytes core)
+least_one bytes core some =
+    stage_one (RefusesValues bytes core.agents) (IsValuationFile bytes core.agents) _
+    (λ r s h k. one_refusal values_refusal h.0 k.0 r s (some_same (sym h.1.1 ∙ k.1.1)) h.1.0 k.1.0) (λ r vs h k. values_apart bytes core.agents vs h.0 some k h.1.1) (λ vs us h k. one_list bytes core.agents vs us h k)
+    (λ vs h. outcome_one (outcome vs core Least))
+
+given_one : (bytes : List ℕ) (core : Core) → 0 < core.agents → One (TellsGivenRun bytes core)
+given_one bytes core some =
+    stage_one (RefusesReplay bytes core.agents) (λ (file : List Valuation × List CutAnswer). IsReplayFile bytes core.agents file.0 file.1) _
+    (λ r s h k. one_refusal values_refusal h.0 k.0 r s (some_same (sym h.1.1 ∙ k.1.1)) h.1.0 k.1.0) (λ r file h k. replay_apart bytes core.agents file.0 file.1 h.0 some k h.1.1) (λ x y h k. replay_same bytes core.agents x y h k)
+    (λ file h. outcome_one (outcome file.0 core (Given file.1)))
+
+-- ---- certificates
+
+-- the bytes of a file that is there
+held : (o : Option (List ℕ)) → Some o ≢ Some None → (bytes : List ℕ) × (Some o ≡ Some (Some bytes))
+held None there = absurd (there refl)
+held (Some bytes) there = (bytes, refl)
+
+module _ (files : Files) (name : List ℕ) (core : Core) where
+  bytes_of : {Says : List ℕ → Type 0} → SaysOfFile (Some files) name Says → (bytes : List ℕ) × (told_file (Some files) name ≡ Some (Some bytes))
+  bytes_of h = held (file_of name files) h.there
+
+  own_fault : (f : CertFault) (r : Refusal) → checker_refusal name f ≡ Some r → IsUnread f → ⊥
+  own_fault f r e u = not_refused name f r u e
+
+  one_certificate_refusal : (r s : Refusal) → RefusesCertificate (Some files) name core r → RefusesCertificate (Some files) name core s → r ≡ s
+  one_certificate_refusal r s (missing e h) (missing d k) = h ∙ sym k
+  one_certificate_refusal r s (missing e h) (given_up g d k) = absurd (k.there e)
+  one_certificate_refusal r s (given_up f e h) (missing d k) = absurd (h.there d)
+  one_certificate_refusal r s (given_up f e h) (given_up g d k) =
+      let b = bytes_of h in
+      one_refusal (checker_refusal name) f g r s (one_fault (claim_on core) b.0 f g (own_fault f r e) (own_fault g s d) (h.says b.0 b.1) (k.says b.0 b.1)) e d
+
+  certificate_apart : (r : Refusal) (x : CertAnswer) → RefusesCertificate (Some files) name core r → ChecksFile (Some files) name core x → ⊥
+  certificate_apart r x (missing e h) k = k.there e
+  certificate_apart r x (given_up f e h) k = let b = bytes_of h in own_fault f r e (answer_or_fault (claim_on core) b.0 x f (k.says b.0 b.1) (h.says b.0 b.1))
+
+  certify_one : One (IsCertifyAnswer (Some files) name core)
+  certify_one =
+      stage_one (RefusesCertificate (Some files) name core) (ChecksFile (Some files) name core) _ one_certificate_refusal certificate_apart
+      (λ x y h k. let b = bytes_of h in one_answer (claim_on core) b.0 x y (h.says b.0 b.1) (k.says b.0 b.1)) (λ x h a b e f. told_is e f)
+
+-- ---- decisions
+
+closes_one : (n : ℕ) (f : Option GoalFault) → One (Closes n f)
+closes_one n None a b h k = told_is h k
+closes_one n (Some f) a b h k = h.1.1 ∙ ap refused (some_same (sym h.1.0 ∙ k.1.0)) ∙ sym k.1.1
+
+counters_one : (core : Core) (g : Goal) (xs : List ℤ) → One (Counters core g xs)
+counters_one core g xs a b (low l e) (low k f) = told_is e f
+counters_one core g xs a b (low l e) (high agent atom k f) = absurd (not_both_heights core.agents (atom_count (way_of core g.trace).cake) xs agent atom l k)
+counters_one core g xs a b (high agent atom l e) (low k f) = absurd (not_both_heights core.agents (atom_count (way_of core g.trace).cake) xs agent atom k l)
+counters_one core g xs a b (high agent atom l e) (high other part k f) =
+    let same = one_height core.agents (atom_count (way_of core g.trace).cake) xs agent atom other part l k in
+    e ∙ (λ i. refused (HeightLimit g.number (same.0 i) (same.1 i))) ∙ sym f
+
+follows_one : (core : Core) (g : Goal) (Next : Answer → Type 0) (p : ProverAnswer) → One Next → One (Follows core g Next p)
+follows_one core g Next (RefutedBy m) next a b (x, (h, e)) (y, (k, f)) = e ∙ ap (after_text (line_text (Refutation g.number m))) (next x y h k) ∙ sym f
+follows_one core g Next (SolvedBy xs) next a b h k = counters_one core g xs a b h k
+follows_one core g Next AtLimit next a b e f = told_is e f
+follows_one core g Next (Unfit pivots row col) next a b e f = told_is e f
+
+decides_one : (core : Core) (n : ℕ) (f : Option GoalFault) (gs : List Goal) → One (DecidesAll core n f gs)
+decides_one core n f [] a b h k = closes_one n f a b h k
+decides_one core n f (g ∷ gs) a b (p, (is, h)) (q, (same, k)) =
+    let Next = DecidesAll core n f gs in
+    follows_one core g Next p (decides_one core n f gs) a b h (subst (λ (r : ProverAnswer). Follows core g Next r b) (answer_is_one g.rows pivot_limit q p same is) k)
+
+verify_one : (core : Core) → One (IsVerifyAnswer core)
+verify_one core a b (x, (h, e)) (y, (k, f)) =
+    e ∙ ap (after_text (line_text (Header 1 core.name core.agents))) (decides_one core (length (claim_on core).goals) (claim_on core).fault (claim_on core).goals x y h k) ∙ sym f
+
+-- ---- reports
+
+one_accepted : {m n : ℕ} → Accepted m ≡ Accepted n → m ≡ n
+one_accepted e = cc
+
+counts_one : (core : Core) (report : List ℕ) → One (CountsReport core report)
+counts_one core report =
+    let own = λ (f : CertFault) (r : Refusal) (e : checker_refusal report_name f ≡ Some r) (u : IsUnread f). not_refused report_name f r u e in
+    stage_one (RefusesReport core report) (AcceptsReport core report) _
+    (λ r s h k. one_refusal (checker_refusal report_name) h.0 k.0 r s (one_fault (claim_on core) report h.0 k.0 (own h.0 r h.1.0) (own k.0 s k.1.0) h.1.1 k.1.1) h.1.0 k.1.0)
+    (λ r n h k. own h.0 r h.1.0 (answer_or_fault (claim_on core) report (Accepted n) h.0 k h.1.1)) (λ m n h k. one_accepted (one_answer (claim_on core) report (Accepted m) (Accepted n) h k)) (λ n h a b e f. told_is e f)
+
+after_one : (core : Core) (report : List ℕ) (s : Status) → One (AfterReport core report s)
+after_one core report status.Good a b h k = counts_one core report a b h k
+after_one core report s a b h k = told_is h k
+
+demo_one : (core : Core) → One (IsDemoAnswer core)
+demo_one core a b (x, (h, e)) (y, (k, f)) = after_one core x.text x.status a b e (subst (λ (r : Answer). AfterReport core r.text r.status b) (verify_one core y x k h) f)
+
+made_one : ReadProgramsAreUnique → (text : List ℕ) → One (OfText text IsDemoAnswer)
+made_one once text = text_one once text _ (λ p is. core_one p (parsed_of text p is) IsDemoAnswer (λ c made. demo_one c))
+
+-- ---- all commands
+
+-- where a text is read as one program
+pub answer_unique : ReadProgramsAreUnique → AnswersAreUnique
+answer_unique once files None a b e f = told_is e f
+answer_unique once files (Some (check f)) a b h k = with_core_one once files f IsCheckAnswer (λ c some x y e g. told_is e g) a b h k
+answer_unique once files (Some (print f)) a b h k = program_one once files f IsPrintAnswer (λ text p is x y e g. told_is e g) a b h k
+answer_unique once files (Some (paths f)) a b h k = with_core_one once files f IsPathsAnswer (λ c some x y e g. told_is e g) a b h k
+answer_unique once files (Some (verify f)) a b h k = with_core_one once files f IsVerifyAnswer (λ c some. verify_one c) a b h k
+answer_unique once files (Some (run f v)) a b h k = with_core_one once files f (IsRunAnswer (Some files) v) (λ c some. file_one files v _ (λ bytes. least_one bytes c some)) a b h k
+answer_unique once files (Some (replay f v)) a b h k = with_core_one once files f (IsReplayAnswer (Some files) v) (λ c some. file_one files v _ (λ bytes. given_one bytes c some)) a b h k
+answer_unique once files (Some (certify f c)) a b h k = with_core_one once files f (IsCertifyAnswer (Some files) c) (λ core some. certify_one files c core) a b h k
+answer_unique once files (Some (demo n)) a b h k = made_one once (rounds_text n) a b h k

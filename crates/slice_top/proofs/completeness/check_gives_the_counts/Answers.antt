@@ -1,5 +1,0 @@
-use Rattle.slice_top.proofs.Complete.{check_gives_the_counts}
-use Rattle.slice_top.proofs.completeness.check_gives_the_counts.Goals as goal
-
-pub returns : goal.returns
-returns c = check_gives_the_counts c.parsings_are_unique.ensures.read

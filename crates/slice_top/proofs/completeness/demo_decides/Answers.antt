@@ -1,5 +1,0 @@
-use Rattle.slice_top.proofs.Shown.{demo_decides}
-use Rattle.slice_top.proofs.completeness.demo_decides.Goals as goal
-
-pub returns : goal.returns
-returns c = demo_decides c.parsings_are_unique.ensures.read

@@ -1,5 +1,0 @@
-use Rattle.slice_top.proofs.Complete.{print_gives_the_text}
-use Rattle.slice_top.proofs.completeness.print_gives_the_text.Goals as goal
-
-pub returns : goal.returns
-returns c = print_gives_the_text c.parsings_are_unique.ensures.read

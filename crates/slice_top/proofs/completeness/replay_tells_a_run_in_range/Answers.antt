@@ -1,5 +1,0 @@
-use Rattle.slice_top.proofs.Complete.{replay_tells_a_run_in_range}
-use Rattle.slice_top.proofs.completeness.replay_tells_a_run_in_range.Goals as goal
-
-pub returns : goal.returns
-returns c = replay_tells_a_run_in_range c.parsings_are_unique.ensures.read

@@ -1,5 +1,0 @@
-use Rattle.slice_top.proofs.UniqueAnswers.{answer_unique}
-use Rattle.slice_top.proofs.laws.answers_are_unique.Goals as goal
-
-pub returns : goal.returns
-returns c = answer_unique c.parsings_are_unique.ensures.read

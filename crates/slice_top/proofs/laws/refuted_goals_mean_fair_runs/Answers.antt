@@ -1,8 +1,0 @@
-use Rattle.slice_top.proofs.Fair.{unsolved_fair, refuted_fair}
-use Rattle.slice_top.proofs.laws.refuted_goals_mean_fair_runs.Goals as goal
-
-pub returns-clause-unsolved : goal.returns-clause-unsolved
-returns-clause-unsolved c = unsolved_fair
-
-pub returns-clause-refuted : goal.returns-clause-refuted
-returns-clause-refuted c = refuted_fair
