@@ -3,3 +3,4 @@ pub mod Values
 pub mod Wholes
 pub mod OneLine
 pub mod Written
+pub mod Used

@@ -19,7 +19,7 @@ use Rattle.serde_json.specs.Find.{get, get_member}
 use Rattle.slice_json.specs.Reading.{key_count}
 use Rattle.slice_json.specs.Texts.{whole, text, signed, list_of}
 use Rattle.slice_cert.specs.declared.line.Line.{Line}
-use Rattle.slice_cert.specs.declared.line.Line.TheVariants.{Header, Refutation, Closing}
+use Rattle.slice_cert.specs.declared.line.Line.TheVariants.{Header, Refutation, Cover, Closing}
 use Rattle.slice_cert.specs.CertLines.{Says, IsLine}
 use Rattle.slice_cert.proofs.Values.{items_same}
 
@@ -66,6 +66,55 @@ no_third_key (number t) x y z n a b c = cc
 no_third_key (string t) x y z n a b c = cc
 no_third_key (array t) x y z n a b c = cc
 no_third_key (object ms) x y z n a b c = no_third ms x y z n a b c
+
+-- ---- nor three keys four names
+first_or : (k l : List ℕ) (o : Ordering) (e x : Data) (rest : Option Data) → slice_cmp nat_cmp k l ≡ o → match_ordering o rest (Some e) rest ≡ Some x → (k ≡ l) ⊎ (rest ≡ Some x)
+first_or k l Equal e x rest a h = inl (same_at k l Equal a refl)
+first_or k l Less e x rest a h = inr h
+first_or k l Greater e x rest a h = inr h
+
+in_three : (k l m n : List ℕ) (e f g x : Data) → get_member k (member l e (member m f (member n g no_members))) ≡ Some x → (k ≡ l) ⊎ ((k ≡ m) ⊎ (k ≡ n))
+in_three k l m n e f g x h = elim (first_or k l (slice_cmp nat_cmp k l) e x (get_member k (member m f (member n g no_members))) refl h) [ inl a ↦ inl a | inr b ↦ inr (found k m n f g x b) ]
+
+not_first : (k l m n : List ℕ) → (k ≡ l) ⊎ ((k ≡ m) ⊎ (k ≡ n)) → (k ≡ l → ⊥) → (k ≡ m) ⊎ (k ≡ n)
+not_first k l m n (inl a) no_ = absurd (no_ a)
+not_first k l m n (inr b) no_ = b
+
+not_second : (k l m n : List ℕ) → (k ≡ l) ⊎ ((k ≡ m) ⊎ (k ≡ n)) → (k ≡ m → ⊥) → (k ≡ l) ⊎ (k ≡ n)
+not_second k l m n (inl a) no_ = inl a
+not_second k l m n (inr (inl b)) no_ = absurd (no_ b)
+not_second k l m n (inr (inr c)) no_ = inr c
+
+not_third : (k l m n : List ℕ) → (k ≡ l) ⊎ ((k ≡ m) ⊎ (k ≡ n)) → (k ≡ n → ⊥) → (k ≡ l) ⊎ (k ≡ m)
+not_third k l m n (inl a) no_ = inl a
+not_third k l m n (inr (inl b)) no_ = inr b
+not_third k l m n (inr (inr c)) no_ = absurd (no_ c)
+
+four_of_three : (a b c d l m n : List ℕ) → (length a ≡ length b → ⊥) → (length a ≡ length c → ⊥) → (length a ≡ length d → ⊥) → (length b ≡ length c → ⊥) → (length b ≡ length d → ⊥) → (length c ≡ length d → ⊥)
+    → (a ≡ l) ⊎ ((a ≡ m) ⊎ (a ≡ n)) → (b ≡ l) ⊎ ((b ≡ m) ⊎ (b ≡ n)) → (c ≡ l) ⊎ ((c ≡ m) ⊎ (c ≡ n)) → (d ≡ l) ⊎ ((d ≡ m) ⊎ (d ≡ n)) → ⊥
+four_of_three a b c d l m n ab ac ad bc bd cd (inl x) q r s =
+    three_of_two b c d m n bc bd cd (not_first b l m n q (λ y. ab (apart a b l x y))) (not_first c l m n r (λ y. ac (apart a c l x y))) (not_first d l m n s (λ y. ad (apart a d l x y)))
+four_of_three a b c d l m n ab ac ad bc bd cd (inr (inl x)) q r s =
+    three_of_two b c d l n bc bd cd (not_second b l m n q (λ y. ab (apart a b m x y))) (not_second c l m n r (λ y. ac (apart a c m x y))) (not_second d l m n s (λ y. ad (apart a d m x y)))
+four_of_three a b c d l m n ab ac ad bc bd cd (inr (inr x)) q r s =
+    three_of_two b c d l m bc bd cd (not_third b l m n q (λ y. ab (apart a b n x y))) (not_third c l m n r (λ y. ac (apart a c n x y))) (not_third d l m n s (λ y. ad (apart a d n x y)))
+
+no_fourth : (ms : Members) (w x y z : Data) → key_count (object ms) ≡ Some 3 → get_member (codes "agents") ms ≡ Some w → get_member (codes "certificate") ms ≡ Some x → get_member (codes "protocol") ms ≡ Some y → get_member (codes "cover") ms ≡ Some z → ⊥
+no_fourth no_members w x y z n a b c d = cc
+no_fourth (member l e no_members) w x y z n a b c d = let k : ◌≡◌ {A = ℕ} 1 3 = cc in omega (arith, k)
+no_fourth (member l e (member m f no_members)) w x y z n a b c d = let k : ◌≡◌ {A = ℕ} 2 3 = cc in omega (arith, k)
+no_fourth (member l e (member m f (member o g no_members))) w x y z n a b c d =
+    four_of_three (codes "agents") (codes "certificate") (codes "protocol") (codes "cover") l m o (λ e. omega (arith, e)) (λ e. omega (arith, e)) (λ e. omega (arith, e)) (λ e. omega (arith, e)) (λ e. omega (arith, e)) (λ e. omega (arith, e))
+    (in_three (codes "agents") l m o e f g w a) (in_three (codes "certificate") l m o e f g x b) (in_three (codes "protocol") l m o e f g y c) (in_three (codes "cover") l m o e f g z d)
+no_fourth (member l e (member m f (member o g (member k h ms)))) w x y z n a b c d = let s : suc (suc (suc (suc (members_len ms)))) ≡ 3 = cc in omega (arith, s)
+
+no_fourth_key : (d : Data) (w x y z : Data) → key_count d ≡ Some 3 → get (codes "agents") d ≡ Some w → get (codes "certificate") d ≡ Some x → get (codes "protocol") d ≡ Some y → get (codes "cover") d ≡ Some z → ⊥
+no_fourth_key null w x y z n a b c d = cc
+no_fourth_key (boolean t) w x y z n a b c d = cc
+no_fourth_key (number t) w x y z n a b c d = cc
+no_fourth_key (string t) w x y z n a b c d = cc
+no_fourth_key (array t) w x y z n a b c d = cc
+no_fourth_key (object ms) w x y z n a b c d = no_fourth ms w x y z n a b c d
 
 -- ---- texts of numbers
 decimal_same : (n m : ℕ) → n < 10 ^ 64 → m < 10 ^ 64 → decimal n ≡ decimal m → n ≡ m
@@ -116,6 +165,19 @@ says_one d (Refutation g m) (Header v p a) s t = absurd (counts_differ _ t.0 s.0
 says_one d (Closing n) (Header v p a) s t = absurd (counts_differ _ t.0 s.0)
 says_one d (Refutation g m) (Closing n) s t = absurd (no_third_key d _ _ _ s.0 s.1.0 s.1.1.0 t.1.0)
 says_one d (Closing n) (Refutation g m) s t = absurd (no_third_key d _ _ _ t.0 t.1.0 t.1.1.0 s.1.0)
+says_one d (Header v p a) (Cover g c m) s t = absurd (no_fourth_key d _ _ _ _ s.0 s.1.0 s.1.1.0 s.1.1.1.0 t.1.0)
+says_one d (Cover g c m) (Header v p a) s t = absurd (no_fourth_key d _ _ _ _ t.0 t.1.0 t.1.1.0 t.1.1.1.0 s.1.0)
+says_one d (Refutation g m) (Cover h c k) s t = absurd (counts_differ _ t.0 s.0)
+says_one d (Cover g c m) (Refutation h k) s t = absurd (counts_differ _ s.0 t.0)
+says_one d (Cover g c m) (Closing n) s t = absurd (counts_differ _ s.0 t.0)
+says_one d (Closing n) (Cover g c m) s t = absurd (counts_differ _ t.0 s.0)
+says_one d (Cover g c m) (Cover h b k) s t =
+    let w = whole_same _ c b s.1.0 t.1.0 in
+    let x = whole_same _ g h s.1.1.0 t.1.1.0 in
+    let two : Some (list_of signed m) ≡ Some (list_of signed k) = sym s.1.1.1.0 ∙ t.1.1.1.0 in
+    let same : items_of (map signed m) ≡ items_of (map signed k) = cc in
+    let y = texts_same m k s.2.2 t.2.2 (items_same (map signed m) (map signed k) same) in
+    λ i. Cover (x i) (w i) (y i)
 says_one d (Closing n) (Closing k) s t = ap Closing (whole_same _ n k s.1.1.0 t.1.1.0)
 says_one d (Refutation g m) (Refutation h k) s t =
     let x = whole_same _ g h s.1.0 t.1.0 in

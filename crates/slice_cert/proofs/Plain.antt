@@ -8,12 +8,13 @@ use Rattle.slice_num.specs.Name.{is_name, is_word, is_letter, is_word_byte, all_
 use Rattle.serde_json.specs.Written.{has_float}
 use Rattle.slice_json.specs.Texts.{signed, plain-list_of}
 use Rattle.slice_cert.specs.declared.line.Line.{Line}
-use Rattle.slice_cert.specs.declared.line.Line.TheVariants.{Header, Refutation, Closing}
+use Rattle.slice_cert.specs.declared.line.Line.TheVariants.{Header, Refutation, Cover, Closing}
 use Rattle.slice_cert.specs.CertLines.{line_json}
 
 pub plain_line : (l : Line) → has_float (line_json l) ≡ false
 plain_line (Header version protocol agents) = refl
 plain_line (Refutation goal multipliers) = rw (plain-list_of signed (λ z. refl) multipliers)
+plain_line (Cover goal passed multipliers) = rw (plain-list_of signed (λ z. refl) multipliers)
 plain_line (Closing goals) = refl
 
 byte_small : (c : ℕ) → IsTrue (is_word_byte c) → c < 128

@@ -9,9 +9,9 @@ use Rattle.std.specs.List.{All}
 use Rattle.std.proofs.lemmas.Slice.Eq.{bytes_eq-Decides}
 use Rattle.slice_num.specs.Rational.{Fits}
 use Rattle.slice_cert.specs.declared.line.Line.{Line}
-use Rattle.slice_cert.specs.declared.line.Line.TheVariants.{Header, Refutation, Closing}
+use Rattle.slice_cert.specs.declared.line.Line.TheVariants.{Header, Refutation, Cover, Closing}
 use Rattle.slice_cert.specs.CertLines.{Says}
-use Rattle.slice_cert.specs.Kinds.{IsRefutation}
+use Rattle.slice_cert.specs.Kinds.{IsRefutation, IsCover}
 use Rattle.serde_json.specs.declared.value.Value.{Value}
 use Rattle.slice_json.specs.Texts.{text, signed, list_of}
 
@@ -66,8 +66,24 @@ says_out key wanted d e = ap (λ (o : Option Data). text_is wanted (option_and_t
 -- where no numbers are those of the array, the value is no refutation
 pub no_refutation : (d : Data) (vs : List Value) (l : Line) → get (codes "multipliers") d ≡ Some (array (items_view vs)) → ((zs : List ℤ) → All Fits zs → map view vs ≡ map signed zs → ⊥) → IsRefutation l → Says d l → ⊥
 no_refutation d vs (Header version protocol agents) e none is s = absurd is
+no_refutation d vs (Cover goal passed zs) e none is s = absurd is
 no_refutation d vs (Closing goals) e none is s = absurd is
 no_refutation d vs (Refutation goal zs) e none is s =
     let two : Some (array (items_view vs)) ≡ Some (list_of signed zs) = sym e ∙ s.1.1.0 in
     let same : items_view vs ≡ items_of (map signed zs) = cc in
     none zs s.2.1 (items_same (map view vs) (map signed zs) same)
+
+-- nor a line that covers goals
+pub no_cover : (d : Data) (vs : List Value) (l : Line) → get (codes "multipliers") d ≡ Some (array (items_view vs)) → ((zs : List ℤ) → All Fits zs → map view vs ≡ map signed zs → ⊥) → IsCover l → Says d l → ⊥
+no_cover d vs (Header version protocol agents) e none is s = absurd is
+no_cover d vs (Refutation goal zs) e none is s = absurd is
+no_cover d vs (Closing goals) e none is s = absurd is
+no_cover d vs (Cover goal passed zs) e none is s =
+    let two : Some (array (items_view vs)) ≡ Some (list_of signed zs) = sym e ∙ s.1.1.1.0 in
+    let same : items_view vs ≡ items_of (map signed zs) = cc in
+    none zs s.2.2 (items_same (map view vs) (map signed zs) same)
+
+-- the texts of numbers are there, where the array's values are these texts
+pub texts_there : (d : Data) (vs : List Value) (zs us : List ℤ) → get (codes "multipliers") d ≡ Some (array (items_view vs)) → map view vs ≡ map signed zs → us ≡ zs
+    → get (codes "multipliers") d ≡ Some (list_of signed us)
+texts_there d vs zs us e f g = e ∙ ap (λ (ds : List Data). Some (array (items_of ds))) f ∙ ap (λ (xs : List ℤ). Some (list_of signed xs)) (sym g)

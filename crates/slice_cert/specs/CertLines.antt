@@ -9,7 +9,7 @@ use Rattle.slice_num.specs.Name.{is_name}
 use Rattle.slice_json.specs.Texts.{whole, text, signed, list_of, line_of}
 use Rattle.slice_json.specs.Reading.{json_of, key_count}
 use Rattle.slice_cert.specs.declared.line.Line.{Line}
-use Rattle.slice_cert.specs.declared.line.Line.TheVariants.{Header, Refutation, Closing}
+use Rattle.slice_cert.specs.declared.line.Line.TheVariants.{Header, Refutation, Cover, Closing}
 
 -- the members of a line, in the order of their keys' bytes: a multiplier is a string, all other numbers are JSON's
 abbrev pub line_members : Line → Members
@@ -17,6 +17,8 @@ line_members (Header version protocol agents) =
     member (codes "agents") (whole agents) (member (codes "certificate") (whole version) (member (codes "protocol") (text protocol) no_members))
 line_members (Refutation goal multipliers) =
     member (codes "goal") (whole goal) (member (codes "multipliers") (list_of signed multipliers) no_members)
+line_members (Cover goal passed multipliers) =
+    member (codes "cover") (whole passed) (member (codes "goal") (whole goal) (member (codes "multipliers") (list_of signed multipliers) no_members))
 line_members (Closing goals) =
     member (codes "closing") (text (codes "envy-free")) (member (codes "goals") (whole goals) no_members)
 
@@ -32,6 +34,7 @@ line_text l = line_of (line_json l)
 abbrev pub MayStand : Line → Type 0
 MayStand (Header version protocol agents) = IsTrue (is_name protocol) × (version < 2 ^ 32) × (agents < 2 ^ 32)
 MayStand (Refutation goal multipliers) = (goal < 2 ^ 64) × All Fits multipliers
+MayStand (Cover goal passed multipliers) = (goal < 2 ^ 64) × (passed < 2 ^ 32) × All Fits multipliers
 MayStand (Closing goals) = goals < 2 ^ 64
 
 -- the value has each of these members

@@ -1,2 +1,3 @@
 pub mod CertLines
 pub mod Kinds
+pub mod ShortForms

@@ -21,6 +21,16 @@ pub enum Line {
         /// A multiplier for each row of the goal, in the order of the rows.
         multipliers: Items<i128>,
     },
+    /// A line for all goals that follow a goal's first passed choices, as
+    /// `{"cover":1,"goal":0,"multipliers":["1","0","0","1"]}`. Only certificates of version 2 have such lines.
+    Cover {
+        /// The number of the first of these goals, from 0.
+        goal: u64,
+        /// How many choices were passed.
+        passed: u32,
+        /// A multiplier for each row behind these choices, in the order of the rows.
+        multipliers: Items<i128>,
+    },
     /// The last line, as `{"closing":"envy-free","goals":6}`.
     Closing {
         /// How many goals there are.

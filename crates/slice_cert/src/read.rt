@@ -9,7 +9,7 @@ ghost use Rattle.slice_json.specs.Reading.{key_count};
 ghost use Rattle.slice_json.specs.Texts.{whole, signed, text};
 ghost use Rattle.slice_cert.specs.declared.line.Line.{Line};
 ghost use Rattle.slice_cert.specs.CertLines.{IsLine, Says};
-ghost use Rattle.slice_cert.specs.Kinds.{IsHeader, IsRefutation, IsClosing};
+ghost use Rattle.slice_cert.specs.Kinds.{IsHeader, IsRefutation, IsCover, IsClosing};
 ghost use Rattle.slice_cert.specs.declared.read.ReadLineFault.TheVariants.{BadLine, Memory};
 ghost use Rattle.slice_json.specs.declared.read.JsonFault.TheVariants.{Json};
 
@@ -60,6 +60,9 @@ pub fn read_line(alloc: Global, bytes: &[u8]) -> Result<Line, ReadLineFault>
         return Ok(line);
     }
     if let Some(line) = refutation(alloc, &value)? {
+        return Ok(line);
+    }
+    if let Some(line) = cover(alloc, &value)? {
         return Ok(line);
     }
     match closing(&value) {
@@ -115,6 +118,35 @@ fn refutation(alloc: Global, value: &Value) -> Result<Option<Line>, AllocError>
     };
     Ok(Some(Line::Refutation {
         goal,
+        multipliers: Items::from_vec(multipliers),
+    }))
+}
+
+// The line that covers goals and that the value is.
+fn cover(alloc: Global, value: &Value) -> Result<Option<Line>, AllocError>
+    ensures { IfOk result (λ o. MatchOption o ((l : Line) → IsCover l → Says (view value.now) l → ⊥) (λ l. Says (view value.now) l)) }
+{
+    let Some(passed) = number_at(value, "cover") else {
+        return Ok(None);
+    };
+    let Some(goal) = number_at(value, "goal") else {
+        return Ok(None);
+    };
+    let Some(items) = items_at(value, "multipliers") else {
+        return Ok(None);
+    };
+    let Ok(passed) = u32::try_from(passed) else {
+        return Ok(None);
+    };
+    if !has_keys(value, 3) {
+        return Ok(None);
+    }
+    let Some(multipliers) = multipliers_of(alloc, items)? else {
+        return Ok(None);
+    };
+    Ok(Some(Line::Cover {
+        goal,
+        passed,
         multipliers: Items::from_vec(multipliers),
     }))
 }

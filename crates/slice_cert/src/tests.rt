@@ -2,7 +2,7 @@
 ghost use Rattle.std.specs.Prelude.{IfOk};
 ghost use Rattle.slice_cert.specs.CertLines.{MayStand};
 
-use crate::{Line, ReadLineFault, read_line, write_line};
+use crate::{Line, ReadLineFault, read_line, short_line, write_line};
 use slice_num::Word;
 use sqlite_items::Items;
 use std::alloc::{AllocError, Global};
@@ -30,6 +30,17 @@ fn refutation(alloc: Global) -> Result<Line, AllocError>
     })
 }
 
+fn cover(alloc: Global) -> Result<Line, AllocError>
+    ensures { IfOk result (λ l. MayStand l) }
+{
+    let multipliers: Vec<i128> = vec![in alloc; 1, 0, 0, 1]?;
+    Ok(Line::Cover {
+        goal: 0,
+        passed: 1,
+        multipliers: Items::from_vec(multipliers),
+    })
+}
+
 #[test]
 fn writes_each_kind_of_line(rt: HostRuntime) -> Result<(), Fail> {
     let alloc = rt.alloc();
@@ -42,6 +53,11 @@ fn writes_each_kind_of_line(rt: HostRuntime) -> Result<(), Fail> {
     assert_eq!(rt;
         line.as_slice(),
         b"{\"goal\":18446744073709551615,\"multipliers\":[\"0\",\"-1\",\"-170141183460469231731687303715884105727\"]}\n".as_slice()
+    );
+    let line = write_line(alloc, &cover(alloc)?)?;
+    assert_eq!(rt;
+        line.as_slice(),
+        b"{\"cover\":1,\"goal\":0,\"multipliers\":[\"1\",\"0\",\"0\",\"1\"]}\n".as_slice()
     );
     let line = write_line(alloc, &Line::Closing { goals: 6 })?;
     assert_eq!(rt;
@@ -96,6 +112,20 @@ fn reads_multipliers_and_goals(rt: HostRuntime) -> Result<(), Fail> {
     };
     assert_eq!(rt; goal, 0);
     assert_eq!(rt; multipliers.as_slice().len(), 0);
+    let Line::Cover {
+        goal,
+        passed,
+        multipliers,
+    } = read_line(
+        alloc,
+        b"{\"goal\":7,\"multipliers\":[\"-1\"],\"cover\":4294967295}",
+    )?
+    else {
+        assert!(rt; false, "no line that covers goals");
+        return Ok(());
+    };
+    assert_eq!(rt; (goal, passed), (7, u32::MAX));
+    assert_eq!(rt; multipliers.as_slice(), [-1].as_slice());
     let Line::Closing { goals } = read_line(alloc, b"{\"goals\":6,\"closing\":\"envy-free\"}")?
     else {
         assert!(rt; false, "no closing line");
@@ -137,7 +167,11 @@ fn refuses_other_headers_and_closing_lines(rt: HostRuntime) {
 #[test]
 fn refuses_other_lines_of_goals(rt: HostRuntime) {
     let alloc = rt.alloc();
-    let cases: [&[u8]; 12] = [
+    let cases: [&[u8]; 16] = [
+        b"{\"cover\":4294967296,\"goal\":0,\"multipliers\":[]}",
+        b"{\"cover\":-1,\"goal\":0,\"multipliers\":[]}",
+        b"{\"cover\":\"1\",\"goal\":0,\"multipliers\":[]}",
+        b"{\"cover\":1,\"multipliers\":[]}",
         b"{\"goal\":0}",
         b"{\"goal\":0,\"multipliers\":\"1\"}",
         b"{\"goal\":0,\"multipliers\":[1]}",
@@ -157,4 +191,41 @@ fn refuses_other_lines_of_goals(rt: HostRuntime) {
             Err(fault) => assert_eq!(rt; fault, ReadLineFault::BadLine),
         }
     }
+}
+
+#[test]
+fn shortens_lines(rt: HostRuntime) -> Result<(), Fail> {
+    let alloc = rt.alloc();
+    let whole: Vec<i128> = vec![in alloc; 0, 0, 0, 0, 1]?;
+    let Line::Refutation { goal, multipliers } = short_line(2, 7, whole) else {
+        assert!(rt; false, "the own row is left out");
+        return Ok(());
+    };
+    assert_eq!(rt; goal, 7);
+    assert_eq!(rt; multipliers.as_slice(), [0, 0, 0, 0, 1].as_slice());
+    let midst: Vec<i128> = vec![in alloc; 1, 0, 0, 1, 0]?;
+    let Line::Cover {
+        goal,
+        passed,
+        multipliers,
+    } = short_line(2, 0, midst)
+    else {
+        assert!(rt; false, "no line that covers goals");
+        return Ok(());
+    };
+    assert_eq!(rt; (goal, passed), (0, 1));
+    assert_eq!(rt; multipliers.as_slice(), [1, 0, 0, 1].as_slice());
+    let first: Vec<i128> = vec![in alloc; 1, -1, 0, 0, 0, 0]?;
+    let Line::Cover {
+        goal,
+        passed,
+        multipliers,
+    } = short_line(2, 3, first)
+    else {
+        assert!(rt; false, "no line that covers goals");
+        return Ok(());
+    };
+    assert_eq!(rt; (goal, passed), (3, 0));
+    assert_eq!(rt; multipliers.as_slice(), [1, -1, 0].as_slice());
+    Ok(())
 }

@@ -54,6 +54,14 @@ fn line_value(alloc: Global, line: &Line) -> Result<Value, AllocError>
             let texts = list(alloc, multipliers.as_slice())?;
             json!(in alloc; {"goal": *goal, "multipliers": texts})
         }
+        Line::Cover {
+            goal,
+            passed,
+            multipliers,
+        } => {
+            let texts = list(alloc, multipliers.as_slice())?;
+            json!(in alloc; {"cover": *passed, "goal": *goal, "multipliers": texts})
+        }
         Line::Closing { goals } => { json!(in alloc; {"closing": "envy-free", "goals": *goals}) }
     }
 }

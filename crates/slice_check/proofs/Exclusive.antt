@@ -1,28 +1,36 @@
--- A file that is rejected is no certificate.
-use Rattle.std.proofs.Common.{◌≡◌, ◌∙◌, ◌⊎◌, inl, inr, ◌+◌, ◌<◌, ◌≤◌, ◌++◌, ℕ, zero, suc, ℤ, List, [], ◌∷◌, length, drop, ap, sym, subst, refl, arith, length-drop}
+-- A file that is rejected is no certificate: a walk over a certificate finds at each place what a certificate has there.
+use Rattle.std.proofs.Common.{◌≡◌, ◌∙◌, ◌⊎◌, inl, inr, ◌+◌, ◌<◌, ◌≤◌, ◌++◌, ℕ, zero, suc, ℤ, List, [], ◌∷◌, length, drop, ap, sym, subst, refl, arith, length-drop, Some}
+use Rattle.std.specs.Bool.{⊤}
+use Rattle.std.specs.declared.option.Option.{Option}
 use Rattle.std.proofs.lemmas.List.{drop-drop}
 use Rattle.slice_io.specs.Lines.{first_line, lines_of, rest_from}
 use Rattle.slice_io.proofs.Gathering.{lines_step}
-use Rattle.slice_paths.specs.Goals.{Goal}
+use Rattle.slice_core.specs.Tree.{Core}
+use Rattle.slice_linear.specs.Rows.{LinearRow, Refutes}
+use Rattle.slice_linear.proofs.Ring.{linear}
+use Rattle.slice_paths.specs.Events.{Event, NextGoal, Gives, NoMore, Overflows, OverLimit, Tell, events_of, goal_limit, next_goal}
+use Rattle.slice_paths.specs.Fronts.{ShareFirst, cover_rows, events_after}
+use Rattle.slice_paths.specs.Goals.{Goal, goals}
+use Rattle.slice_paths.proofs.Tells.{events_tell_goals}
 use Rattle.slice_cert.specs.declared.line.Line.{Line}
-use Rattle.slice_cert.specs.declared.line.Line.TheVariants.{Header, Refutation, Closing}
+use Rattle.slice_cert.specs.declared.line.Line.TheVariants.{Header, Refutation, Cover, Closing}
 use Rattle.slice_cert.specs.CertLines.{IsLine}
 use Rattle.slice_cert.proofs.OneLine.{one_line}
-use Rattle.slice_check.specs.Certificate.{Claim, Accepts, AreLines, AreShort, TakeInOrder, Takes, RefutesFirst, SaysLine, IsRead, AtGoal, AtEnd, IsClosed, NoneSolved, line_limit}
-use Rattle.slice_linear.specs.Rows.{IsSolution}
-use Rattle.slice_linear.proofs.Motzkin.{refuted_has_no_solution}
-use Rattle.std.proofs.lemmas.Bool.{cases_lt}
-use Rattle.slice_linear.proofs.Ring.{linear}
-use Rattle.slice_cert.specs.Kinds.{IsClosing}
+use Rattle.slice_check.specs.declared.verdict.Verdict.{Verdict}
 use Rattle.slice_check.specs.declared.verdict.Verdict.TheVariants as verdict
-use Rattle.slice_check.specs.declared.answer.HeaderField.{HeaderField}
-use Rattle.slice_check.specs.declared.answer.HeaderField.TheVariants.{Kind, Version, Protocol, Agents}
 use Rattle.slice_check.specs.declared.answer.Rejection.{Rejection}
-use Rattle.slice_check.specs.declared.answer.Rejection.TheVariants as rejection
-use Rattle.slice_check.proofs.Standing.{stands_place}
-use Rattle.slice_check.specs.Faults.{HeaderDiffers, IsOutOfOrder, IsThere, Rejects, SaysOfFirst}
+use Rattle.slice_check.specs.declared.answer.CertFault.TheVariants as cert_fault
+use Rattle.slice_check.specs.declared.answer.CertAnswer.TheVariants.{Accepted, Rejected}
+use Rattle.slice_check.specs.Verdicts.{IsVerdict}
+use Rattle.slice_check.specs.Certificate.{Accepts, AreLines, AreShort, CoversFirst, RefutesFirst, TakeInOrder, Takes, line_limit}
+use Rattle.slice_check.specs.Faults.{CoverSays, Rejects}
+use Rattle.slice_check.proofs.Ahead.{IsGiven, given, none_left, plain_tells, share_count, skipped}
+use Rattle.slice_check.proofs.Walks.{Ended, Long, Past, Bad, Says, Place, Heading, On, Over, Answers, Faults, Step, Goes, Stops, Reads, HeadSteps, VerdictSteps, PlainGoes, CoverGoes, GoalSteps, EndSteps, NextSteps, OverSteps, Steps, Walks, no_field, nothing_there}
+use Rattle.slice_check.proofs.Halting.{said_ends}
 
--- line i of a file that has these lines: it is there, short, and one of them
+-- ---- the lines of a certificate
+
+-- line i of the file is there, short, and this one
 record HasLine (file : List ℕ) (i : ℕ) (l : Line) : Type 0 where
   there : 0 < length (rest_from i file)
   short : length (first_line (rest_from i file)) ≤ line_limit
@@ -50,187 +58,161 @@ has_lines file (l ∷ ls) i h s =
     let b = subst AreShort e s in
     (record { there = some; short = b.0; is = a.0 }, has_lines file ls (suc i) a.1 b.1)
 
--- what the file says at a line is the line that it has there
-same_line : (file : List ℕ) (i : ℕ) (l k : Line) → HasLine file i l → SaysLine file i k → l ≡ k
-same_line file i l k h s = one_line (first_line (rest_from i file)) l k h.is (subst (λ (t : List ℕ). IsLine t k) s.1.1 s.2)
+-- ---- what a certificate has at a place
 
--- ---- one line takes one goal
-one_goal : (l : Line) (k count : ℕ) (gs : List Goal) → Takes l k gs count → count ≡ 1
-one_goal (Header version protocol agents) k count gs t = absurd t
-one_goal (Closing total) k count gs t = absurd t
-one_goal (Refutation goal m) k count gs t = t.1
+-- lines that take the goals that are left, and then the closing line
+record Left (core : Core) (file : List ℕ) (version n : ℕ) (ahead : List Event) (i : ℕ) : Type 0 where
+  body : List Line
+  takes : TakeInOrder core version n (drop n (goals core)) body
+  lines : HasLines file i (body ++ Closing (length (goals core)) ∷ [])
+  tells : Tell ahead (drop n (goals core)) n
+  within : n ≤ length (goals core)
 
-as_many : (ls : List Line) (k : ℕ) (gs : List Goal) → TakeInOrder k gs ls → length gs ≡ length ls
-as_many [] k gs t = ap length t
-as_many (l ∷ ls) k gs t =
-    let one = one_goal l k t.0 gs t.2 in
-    let rest = as_many ls (k + t.0) (drop t.0 gs) t.3 in
-    omega (arith, one, rest, t.1, length-drop t.0 gs)
+abbrev Holds : Core → List ℕ → Place → Type 0
+Holds core file Heading = Accepts core file
+Holds core file (On version n ahead i) = Left core file version n ahead i
+Holds core file (Over n i) = rest_from i file ≡ []
 
--- what takes one goal
-first_line_takes : (file : List ℕ) (l : Line) (i k count : ℕ) (gs : List Goal) → HasLine file i l → Takes l k gs count → (m : List ℤ) × HasLine file i (Refutation k m) × RefutesFirst gs m
-first_line_takes file (Header version protocol agents) i k count gs h t = absurd t
-first_line_takes file (Closing total) i k count gs h t = absurd t
-first_line_takes file (Refutation goal m) i k count gs h t = (m, subst (λ (n : ℕ). HasLine file i (Refutation n m)) t.0 h, t.2)
+-- what it has behind a step, which is no rejection
+abbrev Kept : Core → List ℕ → Step → Type 0
+Kept core file (Goes p) = Holds core file p
+Kept core file (Stops (Answers (Accepted n))) = ⊤
+Kept core file (Stops (Answers (Rejected r))) = ⊥
+Kept core file (Stops (Faults f)) = ⊤
 
--- the line of goal n of those that are left
-goal_line : (file : List ℕ) (body tail : List Line) (i k n : ℕ) (gs : List Goal) → HasLines file i (body ++ tail) → TakeInOrder k gs body → n < length gs
-    → (m : List ℤ) × HasLine file (i + n) (Refutation (k + n) m) × RefutesFirst (drop n gs) m
-goal_line file [] tail i k n gs h t lt = absurd (omega (arith, ap length t, lt))
-goal_line file (l ∷ ls) tail i k zero gs h t lt =
-    let r = first_line_takes file l i k t.0 gs h.0 t.2 in
-    let e : i ≡ i + 0 = omega arith in
-    let f : k ≡ k + 0 = omega arith in
-    (r.0, subst (λ (x : ℕ). HasLine file x (Refutation (k + 0) r.0)) e (subst (λ (x : ℕ). HasLine file i (Refutation x r.0)) f r.1), r.2)
-goal_line file (l ∷ ls) tail i k (suc n) gs h t lt =
-    let one = one_goal l k t.0 gs t.2 in
-    let r = goal_line file ls tail (suc i) (k + t.0) n (drop t.0 gs) h.1 t.3 (omega (arith, one, lt, length-drop t.0 gs)) in
-    let e : suc i + n ≡ i + suc n = omega arith in
-    let f : (k + t.0) + n ≡ k + suc n = omega (arith, one) in
-    let d : drop n (drop t.0 gs) ≡ drop (suc n) gs = drop-drop n t.0 gs ∙ ap (λ (x : ℕ). drop x gs) (let s : t.0 + n ≡ suc n = omega (arith, one) in s) in
-    (r.0, subst (λ (x : ℕ). HasLine file x (Refutation (k + suc n) r.0)) e (subst (λ (x : ℕ). HasLine file (suc i + n) (Refutation x r.0)) f r.1), subst (λ (xs : List Goal). RefutesFirst xs r.0) d r.2)
+read_kept : (core : Core) (file : List ℕ) (i : ℕ) (P : Line → Step → Type 0) (st : Step) (l : Line) → HasLine file i l → Reads file i P st → (P l st → Kept core file st) → Kept core file st
+read_kept core file i P st l h (Ended, c, r) f = let n : length (rest_from i file) ≡ 0 = ap length c in let t = h.there in absurd (omega (arith, n, t))
+read_kept core file i P st l h (Long, c, r) f = let t = h.short in absurd (omega (arith, t, c.1.1))
+read_kept core file i P st l h (Past, c, r) f = subst (Kept core file) (sym r) tt
+read_kept core file i P st l h (Bad, c, r) f = absurd (c.2 l (subst (λ (t : List ℕ). IsLine t l) (sym c.1.1) h.is))
+read_kept core file i P st l h (Says k, c, r) f =
+    let same = one_line (first_line (rest_from i file)) k l (subst (λ (t : List ℕ). IsLine t k) c.1.1 c.2) h.is in
+    f (subst (λ (x : Line). P x st) same r)
 
-last_line : (file : List ℕ) (body : List Line) (c : Line) (i : ℕ) → HasLines file i (body ++ c ∷ []) → HasLine file (i + length body) c × (rest_from (suc (i + length body)) file ≡ [])
-last_line file [] c i h =
-    let e : i ≡ i + 0 = omega arith in
-    (subst (λ (x : ℕ). HasLine file x c) e h.0, subst (λ (x : ℕ). rest_from (suc x) file ≡ []) e h.1)
-last_line file (l ∷ ls) c i h =
-    let r = last_line file ls c (suc i) h.1 in
-    let e : suc i + length ls ≡ i + suc (length ls) = omega arith in
-    (subst (λ (x : ℕ). HasLine file x c) e r.0, subst (λ (x : ℕ). rest_from (suc x) file ≡ []) e r.1)
+-- a verdict on multipliers that refute
+verdict_kept : (core : Core) (file : List ℕ) (rows : List LinearRow) (m : List ℤ) (n : ℕ) (P : Step → Type 0) (w : Verdict) (st : Step) → Refutes rows m → IsVerdict rows m w → VerdictSteps n P w st
+    → (P st → Kept core file st) → Kept core file st
+verdict_kept core file rows m n P verdict.Yes st h v s f = f s
+verdict_kept core file rows m n P verdict.Length st h v s f = absurd (v h.same_length)
+verdict_kept core file rows m n P (verdict.Sign row) st h v s f = absurd (v.2 (h.signs row v.1))
+verdict_kept core file rows m n P (verdict.Sum j) st h v s f = let a = h.at_most_zero j in let b = v.1.3 in absurd (omega (arith, linear, a, b))
+verdict_kept core file rows m n P verdict.NoStrict st h v s f = absurd (v.2 h.strict)
+verdict_kept core file rows m n P (verdict.Overflow unknown) st h v s f = subst (Kept core file) (sym s) tt
 
--- ---- what a certificate has at each line
-record HasAll (claim : Claim) (file : List ℕ) : Type 0 where
-  header : HasLine file 0 (Header 1 claim.name claim.agents)
-  goal : (n : ℕ) → n < length claim.goals → (m : List ℤ) × HasLine file (n + 1) (Refutation n m) × RefutesFirst (drop n claim.goals) m
-  closing : HasLine file (length claim.goals + 1) (Closing (length claim.goals))
-  end : rest_from (length claim.goals + 2) file ≡ []
+-- of no goal no line takes one
+none_taken : (core : Core) (version n count : ℕ) (l : Line) → Takes core version n [] l count → ⊥
+none_taken core version n count (Header v protocol agents) t = t
+none_taken core version n count (Refutation goal m) t = t.2
+none_taken core version n count (Cover goal passed m) t = t.2
+none_taken core version n count (Closing total) t = t
 
-has_all : (claim : Claim) (file : List ℕ) → Accepts claim file → HasAll claim file
-has_all claim file a =
-    let total = length claim.goals in
-    let h = has_lines file (Header 1 claim.name claim.agents ∷ (a.body ++ Closing total ∷ [])) 0 a.lines a.short in
-    let many = as_many a.body 0 claim.goals a.takes in
-    let last = last_line file a.body (Closing total) 1 h.1 in
-    let e : 1 + length a.body ≡ total + 1 = omega (arith, many) in
-    let f : suc (1 + length a.body) ≡ total + 2 = omega (arith, many) in
-    record {
-      header = h.0;
-      goal = λ n lt.
-          let r = goal_line file a.body (Closing total ∷ []) 1 0 n claim.goals h.1 a.takes lt in
-          let p : 1 + n ≡ n + 1 = omega arith in
-          let q : 0 + n ≡ n = omega arith in
-          (r.0, subst (λ (x : ℕ). HasLine file x (Refutation n r.0)) p (subst (λ (x : ℕ). HasLine file (1 + n) (Refutation x r.0)) q r.1), r.2);
-      closing = subst (λ (x : ℕ). HasLine file x (Closing total)) e last.0;
-      end = subst (λ (x : ℕ). rest_from x file ≡ []) f last.1;
-    }
+end_kept : (core : Core) (file : List ℕ) (n i total : ℕ) (st : Step) → total ≡ n → rest_from (suc i) file ≡ [] → EndSteps n i (Closing total) st → Kept core file st
+end_kept core file n i total st e h (inl s) = absurd (s.0 e)
+end_kept core file n i total st e h (inr s) =
+    let z : suc i ≡ i + 1 = omega arith in
+    subst (Kept core file) (sym s.1) (subst (λ (x : ℕ). rest_from x file ≡ []) z h)
 
--- ---- nothing is wrong with a certificate
-at_place : (file : List ℕ) (i j : ℕ) (l : Line) → i ≡ j → SaysLine file i l → SaysLine file j l
-at_place file i j l e s = subst (λ (x : ℕ). SaysLine file x l) e s
+module _ (core : Core) (file : List ℕ) (version n : ℕ) (g : Goal) (later : List Event) (i count : ℕ) (st : Step) (x : IsGiven n g later (drop n (goals core)))
+    (on : (es : List Event) → Tell es (drop (n + count) (goals core)) (n + count) → Left core file version (n + count) es (i + 1)) where
+  -- the line's multipliers refute the goal that comes next
+  plain_kept : (goal : ℕ) (m : List ℤ) → Takes core version n (drop n (goals core)) (Refutation goal m) count → GoalSteps core version n g later i (Refutation goal m) st → Kept core file st
+  plain_kept goal m t (inl s) = absurd (s.0 t.0)
+  plain_kept goal m t (inr s) =
+      verdict_kept core file g.rows m n (PlainGoes version n later i) s.1 st (subst (λ (gs : List Goal). RefutesFirst gs m) x.are t.2) s.2 s.3
+      (λ e. subst (Kept core file) (sym (e ∙ ap (λ (k : ℕ). Goes (On version (n + k) later (i + 1))) (sym t.1)))
+      (on later (subst (λ (k : ℕ). Tell later (drop (n + k) (goals core)) (n + k)) (sym t.1) (plain_tells n g later (goals core) x))))
 
-read_has : (claim : Claim) (file : List ℕ) (i : ℕ) → HasAll claim file → IsRead claim file i → (l : Line) × HasLine file i l
-read_has claim file i h (inl e) = (Header 1 claim.name claim.agents, subst (λ (x : ℕ). HasLine file x (Header 1 claim.name claim.agents)) (sym e) h.header)
-read_has claim file i h (inr r) =
-    let p = stands_place claim file r.0 i r.1.0 in
-    elim (cases_lt r.0 (length claim.goals)) [
-      | inl lt ↦ let g = h.goal r.0 lt in (Refutation r.0 g.0, subst (λ (x : ℕ). HasLine file x (Refutation r.0 g.0)) (sym p) g.1)
-      | inr ge ↦
-          let within = r.1.0.within in
-          let e : length claim.goals + 1 ≡ i = omega (arith, p, ge, within) in
-          (Closing (length claim.goals), subst (λ (x : ℕ). HasLine file x (Closing (length claim.goals))) e h.closing)
-    ]
+  -- or the rows behind its first passed choices
+  cover_kept : (goal passed : ℕ) (m : List ℤ) → Takes core version n (drop n (goals core)) (Cover goal passed m) count → GoalSteps core version n g later i (Cover goal passed m) st → Kept core file st
+  cover_kept goal passed m t (inl s) = absurd (omega (arith, s.0, t.0))
+  cover_kept goal passed m t (inr (v, inl s)) = absurd (s.0 t.1)
+  cover_kept goal passed m t (inr (v, inr s)) =
+      let c = subst (λ (gs : List Goal). CoversFirst core passed gs m count) x.are t.2 in
+      let share = subst (λ (gs : List Goal). ShareFirst core passed g.trace gs count) (sym x.are) c.3 in
+      verdict_kept core file c.0 m n (CoverGoes core version n g passed i) s.1 st c.2 (subst (λ (o : Option (List LinearRow)). CoverSays o m s.1) c.1 s.2) s.3 (behind c.0 c.1 share)
+    where
+      behind : (rows : List LinearRow) → cover_rows core passed g.trace ≡ Some rows → ShareFirst core passed g.trace (drop n (goals core)) count → CoverGoes core version n g passed i st → Kept core file st
+      behind rows e share y = by (share_count core passed g.trace (drop n (goals core)) y.0 count y.1 share) y.2
+        where
+          by : y.0 ≡ count → ((n + y.0 ≤ goal_limit) × (st ≡ Goes (On version (n + y.0) (events_after core passed g.trace) (i + 1)))) ⊎ ((goal_limit < n + y.0) × (st ≡ Stops (Faults cert_fault.GoalLimit))) → Kept core file st
+          by same (inr z) = subst (Kept core file) (sym z.1) tt
+          by same (inl z) =
+              let k = skipped core n passed g later rows x e in
+              let many : k.count ≡ count = share_count core passed g.trace (drop n (goals core)) k.count count k.share share in
+              subst (Kept core file) (sym (z.1 ∙ ap (λ (c : ℕ). Goes (On version (n + c) (events_after core passed g.trace) (i + 1))) same))
+              (on (events_after core passed g.trace) (subst (λ (c : ℕ). Tell (events_after core passed g.trace) (drop (n + c) (goals core)) (n + c)) many k.tells))
 
-header_same : (name : List ℕ) (agents : ℕ) (field : HeaderField) → HeaderDiffers name agents (Header 1 name agents) field → ⊥
-header_same name agents Kind d = d
-header_same name agents Version d = d refl
-header_same name agents Protocol d = d.1 refl
-header_same name agents Agents d = d.2 refl
+  line_kept : (l : Line) → Takes core version n (drop n (goals core)) l count → GoalSteps core version n g later i l st → Kept core file st
+  line_kept (Header v protocol agents) t s = absurd t
+  line_kept (Closing total) t s = absurd t
+  line_kept (Refutation goal m) t s = plain_kept goal m t s
+  line_kept (Cover goal passed m) t s = cover_kept goal passed m t s
 
--- the line of the goal that is next
-goal_is : (claim : Claim) (file : List ℕ) (n i : ℕ) (l : Line) (h : HasAll claim file) (a : AtGoal claim file n i) → SaysLine file i l → Refutation n (h.goal n a.1).0 ≡ l
-goal_is claim file n i l h a s = same_line file (n + 1) (Refutation n (h.goal n a.1).0) l (h.goal n a.1).1 (at_place file i (n + 1) l (stands_place claim file n i a.0) s)
+module _ (core : Core) (file : List ℕ) (version n : ℕ) (ahead : List Event) (i : ℕ) (st : Step) (h : Left core file version n ahead i) where
+  goal_kept : (g : Goal) (later : List Event) → next_goal ahead n ≡ Gives g later → Reads file i (GoalSteps core version n g later i) st → Kept core file st
+  goal_kept g later e r = by h.body h.takes h.lines
+    where
+      x : IsGiven n g later (drop n (goals core))
+      x = given ahead n g later (drop n (goals core)) e h.tells
 
-closing_is : (claim : Claim) (file : List ℕ) (i : ℕ) (l : Line) → HasAll claim file → AtEnd claim file i → SaysLine file i l → Closing (length claim.goals) ≡ l
-closing_is claim file i l h a s = same_line file (length claim.goals + 1) (Closing (length claim.goals)) l h.closing (at_place file i (length claim.goals + 1) l (stands_place claim file (length claim.goals) i a.0) s)
+      by : (body : List Line) → TakeInOrder core version n (drop n (goals core)) body → HasLines file i (body ++ Closing (length (goals core)) ∷ []) → Kept core file st
+      by [] t l = let none : g ∷ x.rest ≡ [] = sym x.are ∙ t in absurd cc
+      by (k ∷ ls) t l =
+          let z : suc i ≡ i + 1 = omega arith in
+          let some = t.1 in
+          let within = h.within in
+          read_kept core file i (GoalSteps core version n g later i) st k l.0 r
+          (line_kept core file version n g later i t.0 st x
+          (λ es tells. record {
+            body = ls;
+            takes = subst (λ (gs : List Goal). TakeInOrder core version (n + t.0) gs ls) (drop-drop t.0 n (goals core)) t.3;
+            lines = subst (λ (j : ℕ). HasLines file j (ls ++ Closing (length (goals core)) ∷ [])) z l.1;
+            tells = tells;
+            within = omega (arith, some, within, length-drop n (goals core));
+          }) k t.2)
 
--- a verdict against multipliers that refute
-length_not : (gs : List Goal) (m : List ℤ) → RefutesFirst gs m → SaysOfFirst gs m verdict.Length → ⊥
-length_not [] m r v = r
-length_not (g ∷ gs) m r v = v r.same_length
+  closing_kept : next_goal ahead n ≡ NoMore → Reads file i (EndSteps n i) st → Kept core file st
+  closing_kept e r = by h.body h.takes h.lines
+    where
+      none : drop n (goals core) ≡ []
+      none = none_left ahead n (drop n (goals core)) e h.tells
 
-sign_not : (gs : List Goal) (m : List ℤ) (row : ℕ) → RefutesFirst gs m → SaysOfFirst gs m (verdict.Sign row) → ⊥
-sign_not [] m row r v = r
-sign_not (g ∷ gs) m row r v = v.2 (r.signs row v.1)
+      all : length (goals core) ≡ n
+      all = let z : length (drop n (goals core)) ≡ 0 = ap length none in let within = h.within in omega (arith, z, within, length-drop n (goals core))
 
-sum_not : (gs : List Goal) (m : List ℤ) (j : ℕ) → RefutesFirst gs m → SaysOfFirst gs m (verdict.Sum j) → ⊥
-sum_not [] m j r v = r
-sum_not (g ∷ gs) m j r v = let a = r.at_most_zero j in let b = v.1.3 in omega (arith, linear, a, b)
+      by : (body : List Line) → TakeInOrder core version n (drop n (goals core)) body → HasLines file i (body ++ Closing (length (goals core)) ∷ []) → Kept core file st
+      by [] t l = read_kept core file i (EndSteps n i) st (Closing (length (goals core))) l.0 r (end_kept core file n i (length (goals core)) st all l.1)
+      by (k ∷ ls) t l = absurd (none_taken core version n t.0 k (subst (λ (gs : List Goal). Takes core version n gs k t.0) none t.2))
 
-strict_not : (gs : List Goal) (m : List ℤ) → RefutesFirst gs m → SaysOfFirst gs m verdict.NoStrict → ⊥
-strict_not [] m r v = r
-strict_not (g ∷ gs) m r v = v.2 r.strict
+  next_kept : (x : NextGoal) → next_goal ahead n ≡ x → NextSteps core file version n i x st → Kept core file st
+  next_kept (Gives g later) e s = goal_kept g later e s
+  next_kept NoMore e s = closing_kept e s
+  next_kept Overflows e s = subst (Kept core file) (sym s) tt
+  next_kept OverLimit e s = subst (Kept core file) (sym s) tt
 
--- the multipliers of the line of goal n refute it
-refuted_at : (claim : Claim) (file : List ℕ) (n i : ℕ) (m : List ℤ) (h : HasAll claim file) (a : AtGoal claim file n i) → SaysLine file i (Refutation n m) → RefutesFirst (drop n claim.goals) m
-refuted_at claim file n i m h a s =
-    let e = goal_is claim file n i (Refutation n m) h a s in
-    let same : (h.goal n a.1).0 ≡ m = cc in
-    subst (λ (x : List ℤ). RefutesFirst (drop n claim.goals) x) same (h.goal n a.1).2
+head_kept : (core : Core) (file : List ℕ) (st : Step) (a : Accepts core file) → HasLines file 1 (a.body ++ Closing (length (goals core)) ∷ []) → HeadSteps core (Header a.version core.name core.agents) st → Kept core file st
+head_kept core file st a h (inr s) = absurd (no_field core.name core.agents a.version (Header a.version core.name core.agents) s.0 a.known refl s.1)
+head_kept core file st a h (inl s) =
+    let same : Header a.version core.name core.agents ≡ Header s.0 core.name core.agents = s.2 in
+    let version : s.0 ≡ a.version = cc in
+    let left : Left core file a.version 0 (events_of core) 1 = record { body = a.body; takes = a.takes; lines = h; tells = events_tell_goals core; within = omega arith } in
+    subst (Kept core file) (sym (s.3 ∙ ap (λ (v : ℕ). Goes (On v 0 (events_of core) 1)) version)) left
 
-pub nothing_there : (file : List ℕ) (i : ℕ) → rest_from i file ≡ [] → IsThere file i → ⊥
-nothing_there file i e (inl t) = let n : length (rest_from i file) ≡ 0 = ap length e in omega (arith, n, t.1.0)
-nothing_there file i e (inr t) = let n : length (first_line (rest_from i file)) ≡ 0 = ap (λ (xs : List ℕ). length (first_line xs)) e in omega (arith, n, t.1)
+over_kept : (core : Core) (file : List ℕ) (n i : ℕ) (st : Step) → rest_from i file ≡ [] → OverSteps file n i st → Kept core file st
+over_kept core file n i st h (inl s) = subst (Kept core file) (sym s.1) tt
+over_kept core file n i st h (inr (inl s)) = subst (Kept core file) (sym s.1) tt
+over_kept core file n i st h (inr (inr s)) = absurd (nothing_there file i h s.0)
 
-rejected : (claim : Claim) (file : List ℕ) (r : Rejection) → HasAll claim file → Rejects claim file r → ⊥
-rejected claim file rejection.NotClosed h w =
-    let l = read_has claim file w.0 h w.1 in let n : length (rest_from w.0 file) ≡ 0 = ap length w.2 in let t = l.1.there in omega (arith, n, t)
-rejected claim file (rejection.LineTooLong line) h w = let l = read_has claim file w.0 h w.2 in let t = l.1.short in omega (arith, t, w.3.1)
-rejected claim file (rejection.BadLine line) h w =
-    let l = read_has claim file w.0 h w.2 in w.3.2 l.0 (subst (λ (t : List ℕ). IsLine t l.0) (sym w.3.1.1) l.1.is)
-rejected claim file (rejection.HeaderDiffers field) h w =
-    let e = same_line file 0 (Header 1 claim.name claim.agents) w.0 h.header w.1 in
-    header_same claim.name claim.agents field (subst (λ (l : Line). HeaderDiffers claim.name claim.agents l field) (sym e) w.2)
-rejected claim file (rejection.Missing goal) h w = let e = goal_is claim file goal w.0 (Closing w.1) h w.2 w.3 in cc
-rejected claim file (rejection.GoalOrder line) h w =
-    let e = goal_is claim file w.1 w.0 w.2 h w.4 w.5 in
-    subst (λ (l : Line). IsOutOfOrder w.1 l) (sym e) w.6 refl
-rejected claim file (rejection.Length goal) h w = length_not (drop goal claim.goals) w.1 (refuted_at claim file goal w.0 w.1 h w.2 w.3) w.4
-rejected claim file (rejection.Sign goal row) h w = sign_not (drop goal claim.goals) w.1 row (refuted_at claim file goal w.0 w.1 h w.2 w.3) w.4
-rejected claim file (rejection.Sum goal unknown) h w = sum_not (drop goal claim.goals) w.1 unknown (refuted_at claim file goal w.0 w.1 h w.2 w.3) w.4
-rejected claim file (rejection.NoStrict goal) h w = strict_not (drop goal claim.goals) w.1 (refuted_at claim file goal w.0 w.1 h w.2 w.3) w.4
-rejected claim file (rejection.Extra line) h w = extra w.2
-  where
-    extra : (AtEnd claim file w.0 × ((l : Line) × SaysLine file w.0 l × (IsClosing l → ⊥))) ⊎ (IsClosed claim file w.0 × IsThere file w.0) → ⊥
-    extra (inl x) = let e = closing_is claim file w.0 x.1.0 h x.0 x.1.1 in x.1.2 (subst IsClosing e tt)
-    extra (inr x) =
-        let p = stands_place claim file (length claim.goals) x.0.0 x.0.2.0 in
-        let e : length claim.goals + 2 ≡ w.0 = omega (arith, p, x.0.1) in
-        nothing_there file w.0 (subst (λ (i : ℕ). rest_from i file ≡ []) e h.end) x.1
-rejected claim file (rejection.ClosingDiffers line) h w =
-    let e = closing_is claim file w.0 (Closing w.1) h w.3 w.4 in
-    let t : length claim.goals ≡ w.1 = cc in w.5 (sym t)
+kept : (core : Core) (file : List ℕ) (p : Place) (st : Step) → Steps core file p st → Holds core file p → Kept core file st
+kept core file Heading st s a =
+    let h = has_lines file (Header a.version core.name core.agents ∷ (a.body ++ Closing (length (goals core)) ∷ [])) 0 a.lines a.short in
+    read_kept core file 0 (HeadSteps core) st (Header a.version core.name core.agents) h.0 s (head_kept core file st a h.1)
+kept core file (On version n ahead i) st s h = next_kept core file version n ahead i st h (next_goal ahead n) refl s
+kept core file (Over n i) st s h = over_kept core file n i st h s
 
--- nothing comes after a certificate's closing line
-pub ends_there : (claim : Claim) (file : List ℕ) → Accepts claim file → rest_from (length claim.goals + 2) file ≡ []
-ends_there claim file a = (has_all claim file a).end
+not_rejected : (core : Core) (file : List ℕ) (r : Rejection) (k : ℕ) (p : Place) → Walks core file k p (Answers (Rejected r)) → Holds core file p → ⊥
+not_rejected core file r zero p w h = kept core file p (Stops (Answers (Rejected r))) w h
+not_rejected core file r (suc k) p w h = not_rejected core file r k w.0 w.3 (kept core file p (Goes w.0) w.2 h)
 
-pub rejected_is_no_certificate : (claim : Claim) (file : List ℕ) (r : Rejection) → Rejects claim file r → Accepts claim file → ⊥
-rejected_is_no_certificate claim file r w a = rejected claim file r (has_all claim file a) w
-
--- ---- the goals of a certificate have no solutions
-first_refuted : (l : Line) (k count : ℕ) (g : Goal) (gs : List Goal) → Takes l k (g ∷ gs) count → (xs : List ℤ) → IsSolution g.rows xs → ⊥
-first_refuted (Header version protocol agents) k count g gs t xs s = absurd t
-first_refuted (Closing total) k count g gs t xs s = absurd t
-first_refuted (Refutation goal m) k count g gs t xs s = refuted_has_no_solution g.rows m xs t.2 s
-
-none_solved : (ls : List Line) (k : ℕ) (gs : List Goal) → TakeInOrder k gs ls → NoneSolved gs
-none_solved [] k gs t = subst NoneSolved (sym t) tt
-none_solved (l ∷ ls) k [] t = tt
-none_solved (l ∷ ls) k (g ∷ gs) t =
-    let one = one_goal l k t.0 (g ∷ gs) t.2 in
-    let rest = none_solved ls (k + t.0) (drop t.0 (g ∷ gs)) t.3 in
-    (first_refuted l k t.0 g gs t.2, subst (λ (n : ℕ). NoneSolved (drop n (g ∷ gs))) one rest)
-
-pub certified_goals_have_no_solution : (claim : Claim) (file : List ℕ) → Accepts claim file → NoneSolved claim.goals
-certified_goals_have_no_solution claim file a = none_solved a.body 0 claim.goals a.takes
+pub rejected_is_no_certificate : (core : Core) (file : List ℕ) (r : Rejection) → Rejects core file r → Accepts core file → ⊥
+rejected_is_no_certificate core file r h a = let w = said_ends core file (Answers (Rejected r)) h in not_rejected core file r w.0 Heading w.1 a

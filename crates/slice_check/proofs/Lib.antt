@@ -1,10 +1,14 @@
-pub mod Claims
+pub mod Accepting
+pub mod Ahead
 pub mod Columns
 pub mod Exclusive
+pub mod Giving
+pub mod Halting
 pub mod OneStop
 pub mod OneVerdict
 pub mod Passing
 pub mod ReadLines
+pub mod Refuted
 pub mod RowsAt
 pub mod SomeLine
 pub mod SomeStop
@@ -12,3 +16,4 @@ pub mod SomeVerdict
 pub mod Standing
 pub mod Stopping
 pub mod Telling
+pub mod Walks

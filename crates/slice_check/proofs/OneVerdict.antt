@@ -1,12 +1,10 @@
 -- Of multipliers one verdict holds at most.
-use Rattle.std.proofs.Common.{◌≡◌, inl, inr, ◌<◌, ℕ, ℤ, pos, List, [], ◌∷◌, ap, subst, refl, arith}
+use Rattle.std.proofs.Common.{◌≡◌, inl, inr, ◌<◌, ℕ, ℤ, pos, List, ap, subst, refl, arith}
 use Rattle.std.specs.Prelude.{◌≤ℤ◌, ◌<ℤ◌}
 use Rattle.std.proofs.lemmas.Bool.{cases_lt}
 use Rattle.slice_linear.specs.Rows.{LinearRow, weighted}
 use Rattle.slice_linear.proofs.Ring.{linear}
-use Rattle.slice_paths.specs.Goals.{Goal}
 use Rattle.slice_check.specs.Verdicts.{IsVerdict, SumFits}
-use Rattle.slice_check.specs.Faults.{SaysOfFirst}
 use Rattle.slice_check.specs.declared.verdict.Verdict.{Verdict}
 use Rattle.slice_check.specs.declared.verdict.Verdict.TheVariants.{Yes, Length, Sign, Sum, NoStrict, Overflow}
 
@@ -74,7 +72,3 @@ one_verdict rows m Yes (Sum j) p q = absurd (not_above (weighted rows m j) (p.0.
 one_verdict rows m Yes (Overflow j) p q = absurd (q.1.2 (p.1 j q.1.0))
 one_verdict rows m Yes NoStrict p q = absurd (q.2 p.0.strict)
 one_verdict rows m Yes Yes p q = refl
-
-pub first_verdict : (gs : List Goal) (m : List ℤ) (v w : Verdict) → SaysOfFirst gs m v → SaysOfFirst gs m w → v ≡ w
-first_verdict [] m v w p q = absurd p
-first_verdict (g ∷ gs) m v w p q = one_verdict g.rows m v w p q

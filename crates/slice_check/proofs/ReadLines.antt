@@ -4,7 +4,8 @@ use Rattle.slice_io.specs.Lines.{Reading, LineIs, LineRefused, line_given}
 use Rattle.slice_io.specs.declared.lines.LineFault.{LineFault}
 use Rattle.slice_io.specs.declared.lines.LineFault.TheVariants.{ReadFault, LineTooLong, TooLong, Memory}
 use Rattle.slice_io.proofs.LineSteps.{line_moved, refused_moved}
-use Rattle.slice_check.specs.Certificate.{Claim, IsRead, IsClosed, line_limit, file_limit}
+use Rattle.slice_core.specs.Tree.{Core}
+use Rattle.slice_check.specs.Certificate.{IsRead, IsClosed, line_limit, file_limit}
 use Rattle.slice_check.specs.Steps.{Stops, stop_of, end_stop_of}
 
 -- the line that was read
@@ -25,22 +26,22 @@ pub long_number : (i line : ℕ) (file : List ℕ) → i < 2000000 → LineRefus
 long_number i line file few h = omega (arith, h.0)
 
 -- a line that is refused stops the checker
-pub refused_stops : (claim : Claim) (r : Reading) (file : List ℕ) (e : LineFault) → r.line_limit ≡ line_limit → r.limit ≡ file_limit → r.given < 2000000 → IsRead claim file r.given
-    → LineRefused r.line_limit r.limit file r.given e → Stops claim file (stop_of e)
-refused_stops claim r file ReadFault l m few d h = tt
-refused_stops claim r file Memory l m few d h = tt
-refused_stops claim r file TooLong l m few d h = (r.given, inl d, line_refused r file TooLong TooLong l m refl h)
-refused_stops claim r file (LineTooLong line) l m few d h =
+pub refused_stops : (core : Core) (r : Reading) (file : List ℕ) (e : LineFault) → r.line_limit ≡ line_limit → r.limit ≡ file_limit → r.given < 2000000 → IsRead core file r.given
+    → LineRefused r.line_limit r.limit file r.given e → Stops core file (stop_of e)
+refused_stops core r file ReadFault l m few d h = tt
+refused_stops core r file Memory l m few d h = tt
+refused_stops core r file TooLong l m few d h = (r.given, inl d, line_refused r file TooLong TooLong l m refl h)
+refused_stops core r file (LineTooLong line) l m few d h =
     let k = line_refused r file (LineTooLong line) (LineTooLong line) l m refl h in
     (r.given, long_number r.given line file few k, d, k)
 
 -- a line that is refused after the closing line
-pub end_stops : (claim : Claim) (r : Reading) (file : List ℕ) (e : LineFault) → r.line_limit ≡ line_limit → r.limit ≡ file_limit → r.given < 2000000 → IsClosed claim file r.given
-    → LineRefused r.line_limit r.limit file r.given e → Stops claim file (end_stop_of e)
-end_stops claim r file ReadFault l m few d h = tt
-end_stops claim r file Memory l m few d h = tt
-end_stops claim r file TooLong l m few d h = (r.given, inr d, line_refused r file TooLong TooLong l m refl h)
-end_stops claim r file (LineTooLong line) l m few d h =
+pub end_stops : (core : Core) (count : ℕ) (r : Reading) (file : List ℕ) (e : LineFault) → r.line_limit ≡ line_limit → r.limit ≡ file_limit → r.given < 2000000 → IsClosed core file count r.given
+    → LineRefused r.line_limit r.limit file r.given e → Stops core file (end_stop_of e)
+end_stops core count r file ReadFault l m few d h = tt
+end_stops core count r file Memory l m few d h = tt
+end_stops core count r file TooLong l m few d h = (r.given, inr (count, d), line_refused r file TooLong TooLong l m refl h)
+end_stops core count r file (LineTooLong line) l m few d h =
     let k = line_refused r file (LineTooLong line) (LineTooLong line) l m refl h in
     let n = long_number r.given line file few k in
-    (r.given, n, inr (d, inr (subst (λ (x : ℕ). LineRefused line_limit file_limit file r.given (LineTooLong x)) n k)))
+    (r.given, count, n, inr (d, inr (subst (λ (x : ℕ). LineRefused line_limit file_limit file r.given (LineTooLong x)) n k)))

@@ -2,10 +2,13 @@
 use Rattle.std.proofs.Common.{SFits, ◌∙◌, ◌≡◌, ◌<◌, ℕ, zero, suc, List, [], ◌∷◌, length, get_or, ap, sym, subst, arith, ℤ, pos, refl}
 use Rattle.std.specs.Prelude.{◌<ℤ◌}
 use Rattle.std.specs.Int.{w128}
+use Rattle.std.specs.List.{All}
+use Rattle.std.proofs.lemmas.List.Elements.{All-head, All-tail}
 use Rattle.std.proofs.lemmas.Int.{to_z-of_z}
 use Rattle.slice_num.proofs.Wrapped.{W}
 use Rattle.slice_linear.specs.Rows.{LinearRow, kind_at, coefs_at, KindTakes, IsAbove}
 use Rattle.slice_linear.specs.declared.row.RowKind.{RowKind}
+use Rattle.slice_check.specs.Verdicts.{HaveOneWidth}
 
 pub kind_is : (rows : List LinearRow) (i : ℕ) (r : LinearRow) → i < length rows → kind_at rows i ≡ (get_or rows i r).kind
 kind_is [] i r lt = absurd (omega arith)
@@ -35,3 +38,12 @@ strict_out rows i r z lt e f s = (subst IsAbove (sym (kind_of rows i r lt e)) s.
 
 pub coefs_of : (rows : List LinearRow) (i : ℕ) (r : LinearRow) → i < length rows → r ≡ get_or rows i r → coefs_at rows i ≡ r.coefs
 coefs_of rows i r lt e = coefs_is rows i r lt ∙ ap (λ (x : LinearRow). x.coefs) (sym e)
+
+-- rows over as many unknowns
+over_all : (rows : List LinearRow) (w i : ℕ) → All (λ (r : LinearRow). length r.coefs ≡ w) rows → i < length rows → length (coefs_at rows i) ≡ w
+over_all [] w i h lt = absurd (omega arith)
+over_all (r ∷ rows) w zero h lt = All-head (λ (x : LinearRow). length x.coefs ≡ w) r rows h
+over_all (r ∷ rows) w (suc i) h lt = over_all rows w i (All-tail (λ (x : LinearRow). length x.coefs ≡ w) r rows h) (omega arith)
+
+pub one_width : (rows : List LinearRow) (w : ℕ) → All (λ (r : LinearRow). length r.coefs ≡ w) rows → HaveOneWidth rows
+one_width rows w h i lt = over_all rows w i h lt ∙ sym (over_all rows w 0 h (omega arith))

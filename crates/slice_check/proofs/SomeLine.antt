@@ -14,7 +14,7 @@ use Rattle.slice_num.specs.Name.{is_name}
 use Rattle.slice_json.specs.Texts.{whole, text, signed, list_of}
 use Rattle.slice_json.specs.Reading.{json_of, key_count}
 use Rattle.slice_cert.specs.declared.line.Line.{Line}
-use Rattle.slice_cert.specs.declared.line.Line.TheVariants.{Header, Refutation, Closing}
+use Rattle.slice_cert.specs.declared.line.Line.TheVariants.{Header, Refutation, Cover, Closing}
 use Rattle.slice_cert.specs.CertLines.{IsLine, Says}
 use Rattle.slice_check.proofs.Telling.{Told, tell_some, tell_both, tell_like, tell_below, tell_true, tell_same, tell_fits}
 
@@ -198,21 +198,59 @@ module _ (d : Data) where
     ]
   ]
 
+-- ---- a line for the goals that follow some choices
+
+abbrev CoverIn : Data → Type 0
+CoverIn d = (goal : ℕ) × (passed : ℕ) × (multipliers : List ℤ) × Says d (Cover goal passed multipliers)
+
+abbrev MayCover : Data → (goal passed : ℕ) → Type 0
+MayCover d goal passed = (key_count d ≡ Some 3) × ((goal < 2 ^ 64) × (passed < 2 ^ 32))
+
+module _ (d : Data) where
+  covers : (goal passed : ℕ) (zs : List ℤ) → get (codes "cover") d ≡ Some (whole passed) → get (codes "goal") d ≡ Some (whole goal) → get (codes "multipliers") d ≡ Some (list_of signed zs) → All Fits zs → Told (MayCover d goal passed) → Told (CoverIn d)
+  covers goal passed zs c e g f (inl m) = inl (goal, passed, zs, (m.0, (c, (e, (g, tt))), (m.1.0, m.1.1, f)))
+  covers goal passed zs c e g f (inr none) = inr (λ h.
+      let same_goal = whole_same (get (codes "goal") d) h.0 goal h.3.1.1.0 e in
+      let same_passed = whole_same (get (codes "cover") d) h.1 passed h.3.1.0 c in
+      none (h.3.0, (subst (λ (n : ℕ). n < 2 ^ 64) same_goal h.3.2.0, subst (λ (n : ℕ). n < 2 ^ 32) same_passed h.3.2.1)))
+
+  covers_with : (goal passed : ℕ) (ds : Items) → get (codes "cover") d ≡ Some (whole passed) → get (codes "goal") d ≡ Some (whole goal) → get (codes "multipliers") d ≡ Some (array ds) → Told (NumbersIn ds) → Told (CoverIn d)
+  covers_with goal passed ds c e g (inl zs) =
+      covers goal passed zs.0 c e (g ∙ ap (λ (xs : Items). Some (array xs)) zs.1.1) zs.1.0 (tell_both (tell_count (key_count d) 3) (tell_both (tell_below goal (2 ^ 64)) (tell_below passed (2 ^ 32))))
+  covers_with goal passed ds c e g (inr none) =
+      inr (λ h. none (h.2, (h.3.2.2, array_same (get (codes "multipliers") d) ds (items_of (map signed h.2)) g h.3.1.1.1.0)))
+
+  tell_cover : Told (CoverIn d)
+  tell_cover = elim (tell_whole (get (codes "cover") d)) [
+    | inr none ↦ inr (λ h. none (h.1, h.3.1.0))
+    | inl k ↦ elim (tell_whole (get (codes "goal") d)) [
+      | inr none ↦ inr (λ h. none (h.0, h.3.1.1.0))
+      | inl n ↦ elim (tell_array (get (codes "multipliers") d)) [
+        | inr none ↦ inr (λ h. none (items_of (map signed h.2), h.3.1.1.1.0))
+        | inl ds ↦ covers_with n.0 k.0 ds.0 k.1 n.1 ds.1 (tell_numbers ds.0)
+      ]
+    ]
+  ]
+
 -- ---- a line
 
-no_line : (d : Data) → (HeaderIn d → ⊥) → (RefutationIn d → ⊥) → (ClosingIn d → ⊥) → (l : Line) → Says d l → ⊥
-no_line d h r c (Header version protocol agents) s = h (version, protocol, agents, s)
-no_line d h r c (Refutation goal multipliers) s = r (goal, multipliers, s)
-no_line d h r c (Closing goals) s = c (goals, s)
+no_line : (d : Data) → (HeaderIn d → ⊥) → (RefutationIn d → ⊥) → (CoverIn d → ⊥) → (ClosingIn d → ⊥) → (l : Line) → Says d l → ⊥
+no_line d h r v c (Header version protocol agents) s = h (version, protocol, agents, s)
+no_line d h r v c (Refutation goal multipliers) s = r (goal, multipliers, s)
+no_line d h r v c (Cover goal passed multipliers) s = v (goal, passed, multipliers, s)
+no_line d h r v c (Closing goals) s = c (goals, s)
 
 tell_said : (d : Data) → Told ((l : Line) × Says d l)
 tell_said d = elim (tell_header d) [
   | inl h ↦ inl (Header h.0 h.1 h.2, h.3)
   | inr h ↦ elim (tell_refutation d) [
     | inl r ↦ inl (Refutation r.0 r.1, r.2)
-    | inr r ↦ elim (tell_closing d) [
-      | inl c ↦ inl (Closing c.0, c.1)
-      | inr c ↦ inr (λ s. no_line d h r c s.0 s.1)
+    | inr r ↦ elim (tell_cover d) [
+      | inl v ↦ inl (Cover v.0 v.1 v.2, v.3)
+      | inr v ↦ elim (tell_closing d) [
+        | inl c ↦ inl (Closing c.0, c.1)
+        | inr c ↦ inr (λ s. no_line d h r v c s.0 s.1)
+      ]
     ]
   ]
 ]

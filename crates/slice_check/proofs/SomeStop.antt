@@ -1,42 +1,46 @@
 -- Something is said of each file: line by line the checker goes on, or something stops it.
 use Rattle.std.specs.Prelude.{nat_lt, if◌then◌else◌}
-use Rattle.std.proofs.Common.{Bool, true, false, ◌≡◌, ◌≢◌, ◌⊎◌, inl, inr, ◌+◌, ◌<◌, ◌≤◌, ℕ, ℤ, List, [], ◌∷◌, length, drop, sym, subst, refl, arith, Some, None}
-use Rattle.std.specs.Bool.{⊤}
+use Rattle.std.proofs.Common.{Bool, true, false, ◌≡◌, ◌≢◌, ◌∙◌, ◌⊎◌, inl, inr, ◌+◌, ◌*◌, ◌<◌, ◌≤◌, ℕ, zero, suc, ℤ, List, [], ◌∷◌, length, drop, get_or, ap, sym, subst, refl, arith, Some, None, length-drop}
 use Rattle.std.specs.declared.option.Option.{Option}
+use Rattle.std.specs.List.{All}
 use Rattle.std.proofs.lemmas.Bool.{cases_lt, cases_eq}
+use Rattle.std.proofs.lemmas.List.{get_or-drop}
 use Rattle.slice_io.specs.Lines.{first_line, line_bytes, rest_from, start_of, LineIs, LineRefused}
 use Rattle.slice_io.specs.declared.lines.LineFault.TheVariants as line_fault
 use Rattle.slice_io.proofs.Gathering.{line_in_bytes}
-use Rattle.slice_paths.specs.Coming.{AreGoals, fault_ahead}
-use Rattle.slice_paths.proofs.GoodRows.{coming_goals_fit}
-use Rattle.slice_paths.specs.Events.{Event, Meets, Breaks, events_of, goal_limit}
-use Rattle.slice_paths.specs.Goals.{Goal}
-use Rattle.slice_paths.specs.declared.goal.GoalFault.{GoalFault}
+use Rattle.slice_core.specs.Tree.{Core}
+use Rattle.slice_linear.specs.Rows.{LinearRow, width}
+use Rattle.slice_atoms.specs.Addresses.{atom_count}
+use Rattle.slice_paths.specs.Coming.{fault_ahead}
 use Rattle.slice_paths.specs.declared.goal.GoalFault.TheVariants as goal_fault
+use Rattle.slice_paths.specs.Events.{Event, Meets, Breaks, NextGoal, Gives, NoMore, Overflows, OverLimit, events_of, goal_limit, next_goal}
+use Rattle.slice_paths.specs.Fronts.{cover_rows, events_after}
+use Rattle.slice_paths.specs.Goals.{Goal, goals}
+use Rattle.slice_paths.specs.Ways.{way_of}
+use Rattle.slice_paths.proofs.FrontLaws.{covers_are_fronts}
+use Rattle.slice_paths.proofs.GoalLaws.{rows_over_unknowns}
 use Rattle.slice_cert.specs.declared.line.Line.{Line}
-use Rattle.slice_cert.specs.declared.line.Line.TheVariants.{Header, Refutation, Closing}
+use Rattle.slice_cert.specs.declared.line.Line.TheVariants.{Header, Refutation, Cover, Closing}
 use Rattle.slice_cert.specs.CertLines.{IsLine}
+use Rattle.slice_cert.specs.Kinds.{IsClosing}
 use Rattle.slice_check.specs.declared.verdict.Verdict.{Verdict}
 use Rattle.slice_check.specs.declared.verdict.Verdict.TheVariants as verdict
 use Rattle.slice_check.specs.declared.answer.HeaderField.{HeaderField}
 use Rattle.slice_check.specs.declared.answer.HeaderField.TheVariants.{Kind, Version, Protocol, Agents}
+use Rattle.slice_check.specs.declared.answer.Rejection.{Rejection}
 use Rattle.slice_check.specs.declared.answer.Rejection.TheVariants as rejection
-use Rattle.slice_check.specs.declared.answer.CertFault.{CertFault}
 use Rattle.slice_check.specs.declared.answer.CertFault.TheVariants as cert_fault
-use Rattle.slice_check.specs.declared.answer.CertAnswer.{CertAnswer}
-use Rattle.slice_check.specs.declared.answer.CertAnswer.TheVariants as cert_answer
-use Rattle.slice_check.specs.declared.answer.Stop.{Stop}
-use Rattle.slice_check.specs.declared.answer.Stop.TheVariants.{Rejected, Failed}
-use Rattle.slice_check.specs.Verdicts.{IsVerdict, HaveOneWidth}
-use Rattle.slice_check.specs.Certificate.{Claim, claim_on, SaysLine, Stands, IsRead, AtEnd, IsClosed, line_limit, file_limit}
-use Rattle.slice_check.specs.Faults.{HeaderDiffers, IsAnswer, IsThere, IsUnread, Fails}
-use Rattle.slice_check.specs.Steps.{IsNext, Stops}
-use Rattle.slice_check.specs.Completeness.{FilesAreDecided}
-use Rattle.slice_check.proofs.Standing.{stands_first, stands_next, accepted}
-use Rattle.slice_check.proofs.Stopping.{read_at_goal, header_stops, other_stops, verdict_stops, total_stops, all_taken, next_there, next_left}
-use Rattle.slice_check.proofs.Telling.{tell_same}
+use Rattle.slice_check.specs.declared.answer.CertAnswer.TheVariants.{Accepted, Rejected}
+use Rattle.slice_check.specs.Verdicts.{HaveOneWidth, IsVerdict}
+use Rattle.slice_check.specs.Certificate.{AtEnd, AtGoal, IsClosed, IsRead, IsVersion, SaysLine, Stands, line_limit, file_limit}
+use Rattle.slice_check.specs.Faults.{CoverSays, HeaderDiffers, IsOutOfOrder, IsThere, LineSays, Rejects}
+use Rattle.slice_check.specs.Completeness.{FilesAreDecided, IsDecided}
+use Rattle.slice_check.proofs.Accepting.{accepted, all_taken, stands_few, stands_first, stands_next, stands_tells}
+use Rattle.slice_check.proofs.Ahead.{IsGiven, given, skipped}
+use Rattle.slice_check.proofs.RowsAt.{coefs_is}
 use Rattle.slice_check.proofs.SomeLine.{tell_line}
 use Rattle.slice_check.proofs.SomeVerdict.{some_verdict}
+use Rattle.slice_check.proofs.Telling.{tell_same}
 
 -- ---- a line
 
@@ -73,162 +77,228 @@ comes file i few = elim (some_left (rest_from i file)) [
   ]
 ]
 
--- ---- what stops the checker
+-- ---- rows
 
--- no failed read, and no want of memory
-abbrev IsTold : Stop → Type 0
-IsTold (Rejected r) = ⊤
-IsTold (Failed f) = IsUnread f → ⊥
+-- rows with so many coefficients each are over as many unknowns
+one_width : (w : ℕ) (rows : List LinearRow) → All (λ (r : LinearRow). length r.coefs ≡ w) rows → HaveOneWidth rows
+one_width w [] h i lt = absurd (omega (arith, lt))
+one_width w (r ∷ rows) h i lt = ap length (coefs_is (r ∷ rows) i r lt) ∙ h i r lt ∙ sym (h 0 r (omega arith))
 
-abbrev Halts : Claim → List ℕ → Type 0
-Halts claim file = (s : Stop) × (IsTold s × Stops claim file s)
+-- so are the rows of a goal of a core
+goal_width : (core : Core) (n : ℕ) (g : Goal) (rest : List Goal) → drop n (goals core) ≡ g ∷ rest → HaveOneWidth g.rows
+goal_width core n g rest e = one_width (1 + core.agents * atom_count (way_of core g.trace).cake) g.rows (rows_over_unknowns core g (n, there, is))
+  where
+    there : n < length (goals core)
+    there = let len : length (drop n (goals core)) ≡ suc (length rest) = ap length e in omega (arith, len, length-drop n (goals core))
 
-module _ (claim : Claim) (file : List ℕ) where
-  read_at : (i : ℕ) → i < 2000000 → IsRead claim file i → ((l : Line) × SaysLine file i l) ⊎ Halts claim file
+    is : get_or (goals core) n g ≡ g
+    is =
+        let none : n ≡ n + 0 = omega arith in
+        ap (λ (k : ℕ). get_or (goals core) k g) none ∙ sym (get_or-drop n (goals core) 0 g) ∙ ap (λ (gs : List Goal). get_or gs 0 g) e
+
+module _ (core : Core) (file : List ℕ) where
+  rejected : (r : Rejection) → Rejects core file r → IsDecided core file
+  rejected r h = inl (Rejected r, h)
+
+  -- ---- a line that is read
+  read_at : (i : ℕ) → i < 2000000 → IsRead core file i → ((l : Line) × SaysLine file i l) ⊎ IsDecided core file
   read_at i few r = by (comes file i few)
     where
-      by : Comes file i → ((l : Line) × SaysLine file i l) ⊎ Halts claim file
-      by (ended none) = inr (Rejected rejection.NotClosed, (tt, (i, r, none)))
-      by (long h) = inr (Rejected (rejection.LineTooLong (i + 1)), (tt, (i, refl, r, h)))
-      by (past h) = inr (Failed cert_fault.TooLong, (λ u. u, (i, inl r, h)))
-      by (bad text is none) = inr (Rejected (rejection.BadLine (i + 1)), (tt, (i, refl, r, (text, is, none))))
+      by : Comes file i → ((l : Line) × SaysLine file i l) ⊎ IsDecided core file
+      by (ended none) = inr (rejected rejection.NotClosed (i, r, none))
+      by (long h) = inr (rejected (rejection.LineTooLong (i + 1)) (i, refl, r, h))
+      by (past h) = inr (inr (cert_fault.TooLong, (λ u. u, (i, inl r, h))))
+      by (bad text is none) = inr (rejected (rejection.BadLine (i + 1)) (i, refl, inl (r, (text, is, none))))
       by (line l s) = inl (l, s)
 
   -- ---- the header
-
-  tell_field : (l : Line) → (l ≡ Header 1 claim.name claim.agents) ⊎ ((field : HeaderField) × HeaderDiffers claim.name claim.agents l field)
+  tell_field : (l : Line) → ((version : ℕ) × IsVersion version × (l ≡ Header version core.name core.agents)) ⊎ ((field : HeaderField) × HeaderDiffers core.name core.agents l field)
   tell_field (Refutation goal m) = inr (Kind, refl)
+  tell_field (Cover goal passed m) = inr (Kind, refl)
   tell_field (Closing total) = inr (Kind, refl)
-  tell_field (Header version protocol agents) = elim (cases_eq version 1) [
+  tell_field (Header version protocol agents) = elim (tell_version version) [
     | inr v ↦ inr (Version, v)
-    | inl v ↦ elim (tell_same protocol claim.name) [
+    | inl v ↦ elim (tell_same protocol core.name) [
       | inr p ↦ inr (Protocol, (v, p))
-      | inl p ↦ elim (cases_eq agents claim.agents) [
+      | inl p ↦ elim (cases_eq agents core.agents) [
         | inr n ↦ inr (Agents, (v, p, n))
-        | inl n ↦ inl (λ i. Header (v i) (p i) (n i))
+        | inl n ↦ inl (version, v, λ i. Header version (p i) (n i))
       ]
     ]
   ]
+    where
+      tell_version : (version : ℕ) → IsVersion version ⊎ (IsVersion version → ⊥)
+      tell_version version = elim (cases_eq version 1) [
+        | inl one ↦ inl (inl one)
+        | inr more ↦ elim (cases_eq version 2) [
+          | inl two ↦ inl (inr two)
+          | inr other ↦ inr (λ v. elim v [ inl a ↦ more a | inr b ↦ other b ])
+        ]
+      ]
 
-  headed : Stands claim file 0 1 ⊎ Halts claim file
+  headed : ((version : ℕ) × Stands core file version 0 (events_of core) 1) ⊎ IsDecided core file
   headed = elim (read_at 0 (omega arith) (inl refl)) [
     | inr h ↦ inr h
     | inl s ↦ elim (tell_field s.0) [
-      | inl same ↦ inl (stands_first claim file (subst (λ (l : Line). SaysLine file 0 l) same s.1))
-      | inr d ↦ inr (Rejected (rejection.HeaderDiffers d.0), (tt, header_stops claim file claim.name claim.agents s.0 d.0 (refl, refl) s.1 d.1))
+      | inl v ↦ inl (v.0, stands_first core file v.0 v.1 (subst (λ (l : Line). SaysLine file 0 l) v.2 s.1))
+      | inr d ↦ inr (rejected (rejection.HeaderDiffers d.0) (s.0, s.1, d.1))
     ]
   ]
 
   -- ---- a goal's line
 
-  module _ (g : Goal) (i : ℕ) (st : Stands claim file g.number i) (next : IsNext claim g) where
-    judged : (m : List ℤ) (v : Verdict) → SaysLine file i (Refutation g.number m) → IsVerdict g.rows m v → Stands claim file (g.number + 1) (i + 1) ⊎ Halts claim file
-    judged m verdict.Yes says h = inl (stands_next claim file g i m st next says h)
-    judged m verdict.Length says h =
-        inr (Rejected (rejection.Length g.number), (tt, verdict_stops claim file g i m verdict.Length (Rejected (rejection.Length g.number)) st next says refl h))
-    judged m (verdict.Sign row) says h =
-        inr (Rejected (rejection.Sign g.number row), (tt, verdict_stops claim file g i m (verdict.Sign row) (Rejected (rejection.Sign g.number row)) st next says refl h))
-    judged m (verdict.Sum unknown) says h =
-        inr (Rejected (rejection.Sum g.number unknown), (tt, verdict_stops claim file g i m (verdict.Sum unknown) (Rejected (rejection.Sum g.number unknown)) st next says refl h))
-    judged m verdict.NoStrict says h =
-        inr (Rejected (rejection.NoStrict g.number), (tt, verdict_stops claim file g i m verdict.NoStrict (Rejected (rejection.NoStrict g.number)) st next says refl h))
-    judged m (verdict.Overflow unknown) says h =
-        inr (Failed (cert_fault.Overflow g.number unknown), (λ u. u, verdict_stops claim file g i m (verdict.Overflow unknown) (Failed (cert_fault.Overflow g.number unknown)) st next says refl h))
+  -- the lines before a later line are right, and take more goals
+  abbrev Later : ℕ → Type 0
+  Later n = (version m i : ℕ) × (ahead : List Event) × Stands core file version m ahead i × (n < m) × (m ≤ goal_limit)
 
-    taken : HaveOneWidth g.rows → (l : Line) → SaysLine file i l → Stands claim file (g.number + 1) (i + 1) ⊎ Halts claim file
-    taken r (Header version protocol agents) says =
-        let s = Rejected (rejection.GoalOrder (i + 1)) in inr (s, (tt, other_stops claim file g i (i + 1) (Header version protocol agents) s st next says refl refl))
-    taken r (Closing total) says =
-        let s = Rejected (rejection.Missing g.number) in inr (s, (tt, other_stops claim file g i (i + 1) (Closing total) s st next says refl refl))
-    taken r (Refutation goal m) says = elim (cases_eq goal g.number) [
-      | inr apart ↦
-          let s = Rejected (rejection.GoalOrder (i + 1)) in inr (s, (tt, other_stops claim file g i (i + 1) (Refutation goal m) s st next says refl (apart, refl)))
+  module _ (version n i : ℕ) (ahead : List Event) (st : Stands core file version n ahead i) (g : Goal) (later : List Event) (e : next_goal ahead n ≡ Gives g later) where
+    at_goal : AtGoal core file version n i g
+    at_goal = record { ahead = ahead; later = later; stands = st; comes = e }
+
+    first : IsGiven n g later (drop n (goals core))
+    first = given ahead n g later (drop n (goals core)) e (stands_tells core file version n ahead i st)
+
+    order : (l : Line) → SaysLine file i l → IsOutOfOrder version n l → IsDecided core file
+    order l s o = rejected (rejection.GoalOrder (i + 1)) (version, i, n, g, l, refl, at_goal, s, o)
+
+    judged : (l : Line) (w : Verdict) → SaysLine file i l → LineSays core version n g l w → (w ≡ verdict.Yes → Later n ⊎ IsDecided core file) → Later n ⊎ IsDecided core file
+    judged l verdict.Yes s h yes_ = yes_ refl
+    judged l verdict.Length s h yes_ = inr (rejected (rejection.Length n) (version, i, g, l, at_goal, s, h))
+    judged l (verdict.Sign row) s h yes_ = inr (rejected (rejection.Sign n row) (version, i, g, l, at_goal, s, h))
+    judged l (verdict.Sum unknown) s h yes_ = inr (rejected (rejection.Sum n unknown) (version, i, g, l, at_goal, s, h))
+    judged l verdict.NoStrict s h yes_ = inr (rejected (rejection.NoStrict n) (version, i, g, l, at_goal, s, h))
+    judged l (verdict.Overflow unknown) s h yes_ = inr (inr (cert_fault.Overflow n unknown, (λ u. u, (version, i, g, l, at_goal, s, h))))
+
+    plain : (goal : ℕ) (m : List ℤ) → SaysLine file i (Refutation goal m) → Later n ⊎ IsDecided core file
+    plain goal m s = elim (cases_eq goal n) [
+      | inr apart ↦ inr (order (Refutation goal m) s apart)
       | inl same ↦
-          let v = some_verdict g.rows m r in judged m v.0 (subst (λ (n : ℕ). SaysLine file i (Refutation n m)) same says) v.1
+          let v = some_verdict g.rows m (goal_width core n g first.rest first.are) in
+          judged (Refutation goal m) v.0 s (same, v.1) (λ y.
+          let few = first.few in
+          let is : IsVerdict g.rows m verdict.Yes = subst (IsVerdict g.rows m) y v.1 in
+          inl (version, n + 1, i + 1, later, stands_next core file version n (n + 1) i ahead later (Refutation goal m) st s (g, e, same, is, refl), omega arith, omega (arith, few)))
     ]
 
-    goal_taken : i < 2000000 → HaveOneWidth g.rows → Stands claim file (g.number + 1) (i + 1) ⊎ Halts claim file
-    goal_taken few r = elim (read_at i few (read_at_goal claim file g i st next)) [
+    covering : (goal passed : ℕ) (m : List ℤ) → version ≡ 2 → SaysLine file i (Cover goal passed m) → Later n ⊎ IsDecided core file
+    covering goal passed m two s = elim (cases_eq goal n) [
+      | inr apart ↦ inr (order (Cover goal passed m) s (two, apart))
+      | inl same ↦ by same (cover_rows core passed g.trace) refl
+    ]
+      where
+        more : goal ≡ n → (rows : List LinearRow) → cover_rows core passed g.trace ≡ Some rows → IsVerdict rows m verdict.Yes → Later n ⊎ IsDecided core file
+        more same rows c v =
+            let k = skipped core n passed g later rows first c in
+            let one = k.one in
+            elim (cases_lt goal_limit (n + k.count)) [
+              | inl over ↦
+                  let two_there = subst (λ (x : ℕ). AtGoal core file x n i g) two at_goal in
+                  let line_there = subst (λ (x : ℕ). SaysLine file i (Cover x passed m)) same s in
+                  let says : CoverSays (cover_rows core passed g.trace) m verdict.Yes = subst (λ (o : Option (List LinearRow)). CoverSays o m verdict.Yes) (sym c) v in
+                  inr (inr (cert_fault.GoalLimit, (λ u. u, inr (n, i, passed, k.count, g, m, two_there, line_there, says, k.share, over))))
+              | inr within ↦
+                  let es = events_after core passed g.trace in
+                  inl (
+                    version,
+                    n + k.count,
+                    i + 1,
+                    es,
+                    stands_next core file version n (n + k.count) i ahead es (Cover goal passed m) st s (g, later, rows, k.count, e, two, same, c, v, k.share, refl, within, refl),
+                    omega (arith, one),
+                    within,
+                  )
+            ]
+
+        by : goal ≡ n → (o : Option (List LinearRow)) → cover_rows core passed g.trace ≡ o → Later n ⊎ IsDecided core file
+        by same None c = judged (Cover goal passed m) verdict.Length s (two, same, subst (λ (o : Option (List LinearRow)). CoverSays o m verdict.Length) (sym c) refl) (λ y. absurd cc)
+        by same (Some rows) c =
+            let v = some_verdict rows m (one_width (width rows) rows (covers_are_fronts core passed g.trace rows c).5) in
+            judged (Cover goal passed m) v.0 s (two, same, subst (λ (o : Option (List LinearRow)). CoverSays o m v.0) (sym c) v.1) (λ y. more same rows c (subst (IsVerdict rows m) y v.1))
+
+    taken_by : (l : Line) → SaysLine file i l → Later n ⊎ IsDecided core file
+    taken_by (Header v protocol agents) s = inr (order (Header v protocol agents) s tt)
+    taken_by (Closing total) s = inr (rejected (rejection.Missing n) (version, i, total, g, at_goal, s))
+    taken_by (Refutation goal m) s = plain goal m s
+    taken_by (Cover goal passed m) s = elim st.known [
+      | inl one ↦ inr (rejected (rejection.BadLine (i + 1)) (i, refl, inr (n, g, Cover goal passed m, subst (λ (x : ℕ). AtGoal core file x n i g) one at_goal, s, tt)))
+      | inr two ↦ covering goal passed m two s
+    ]
+
+    goal_taken : i < 2000000 → Later n ⊎ IsDecided core file
+    goal_taken few = elim (read_at i few (inr (inl (version, n, g, at_goal)))) [
       | inr h ↦ inr h
-      | inl s ↦ taken r s.0 s.1
+      | inl s ↦ taken_by s.0 s.1
     ]
-
-  goals_taken : (gs : List Goal) (n : ℕ) → Stands claim file n (n + 1) → drop n claim.goals ≡ gs → AreGoals n gs → Stands claim file (length claim.goals) (length claim.goals + 1) ⊎ Halts claim file
-  goals_taken [] n st e a = inl (subst (λ (k : ℕ). Stands claim file k (k + 1)) (all_taken claim file n (n + 1) st e) st)
-  goals_taken (g ∷ gs) n st e a =
-      let next = next_there claim (g ∷ gs) gs g n a.0 (sym e) refl in
-      let here = subst (λ (k : ℕ). Stands claim file k (n + 1)) (sym a.0) st in
-      elim (goal_taken g (n + 1) here next (omega (arith, a.1)) a.2.widths) [
-        | inr h ↦ inr h
-        | inl after ↦
-            goals_taken gs (n + 1) (subst (λ (k : ℕ). Stands claim file (k + 1) ((n + 1) + 1)) a.0 after) (sym (next_left claim (g ∷ gs) gs g n (sym e) refl)) a.3
-      ]
 
   -- ---- the closing line, and what comes after it
+  module _ (version n i : ℕ) (ahead : List Event) (st : Stands core file version n ahead i) (e : next_goal ahead n ≡ NoMore) (few : i + 1 < 2000000) where
+    at_end : AtEnd core file n i
+    at_end = record { version = version; ahead = ahead; stands = st; ends = e }
 
-  abbrev Said : Type 0
-  Said = ((a : CertAnswer) × IsAnswer claim file a) ⊎ ((f : CertFault) × ((IsUnread f → ⊥) × Fails claim file f))
-
-  halted : Halts claim file → Said
-  halted (Rejected r, h) = inl (cert_answer.Rejected r, h.1)
-  halted (Failed f, h) = inr (f, h)
-
-  module _ (few : length claim.goals ≤ 1000000) (i : ℕ) (place : i ≡ length claim.goals + 1) (e : AtEnd claim file i) where
-    closed : SaysLine file i (Closing (length claim.goals)) → Said
-    closed s = by (comes file (i + 1) (omega (arith, few, place)))
+    closed : SaysLine file i (Closing n) → IsDecided core file
+    closed s = by (comes file (i + 1) few)
       where
-        shut : IsClosed claim file (i + 1)
-        shut = (i, refl, e, s)
+        shut : IsClosed core file n (i + 1)
+        shut = record { at = i; next = refl; ends = at_end; closes = s }
 
-        extra : IsThere file (i + 1) → Said
-        extra there = inl (cert_answer.Rejected (rejection.Extra ((i + 1) + 1)), (i + 1, refl, inr (shut, there)))
+        extra : IsThere file (i + 1) → IsDecided core file
+        extra there = rejected (rejection.Extra ((i + 1) + 1)) (i + 1, n, refl, inr (shut, there))
 
-        by : Comes file (i + 1) → Said
-        by (ended none) =
-            let p : i + 1 ≡ length claim.goals + 2 = omega (arith, place) in
-            inl (cert_answer.Accepted (length claim.goals), (accepted claim file i e.0 s none, e.1, refl, subst (λ (k : ℕ). IsClosed claim file k) p shut))
+        by : Comes file (i + 1) → IsDecided core file
+        by (ended none) = inl (Accepted n, (accepted core file version n ahead i st e s none, all_taken core file version n ahead i st e, (i + 1, shut, none)))
         by (long h) = extra (inr h)
-        by (past h) = inr (cert_fault.TooLong, (λ u. u, (i + 1, inr shut, h)))
+        by (past h) = inr (cert_fault.TooLong, (λ u. u, (i + 1, inr (n, shut), h)))
         by (bad text is none) = extra (inl (text, is))
         by (line l t) = extra (inl (t.0, t.1))
 
-    ended_by : (l : Line) → SaysLine file i l → Said
-    ended_by (Header version protocol agents) s =
-        inl (cert_answer.Rejected (rejection.Extra (i + 1)), total_stops claim file i (length claim.goals) (i + 1) (Header version protocol agents) (Rejected (rejection.Extra (i + 1))) e refl s refl refl)
-    ended_by (Refutation goal m) s =
-        inl (cert_answer.Rejected (rejection.Extra (i + 1)), total_stops claim file i (length claim.goals) (i + 1) (Refutation goal m) (Rejected (rejection.Extra (i + 1))) e refl s refl refl)
-    ended_by (Closing total) s = elim (cases_eq total (length claim.goals)) [
-      | inl same ↦ closed (subst (λ (n : ℕ). SaysLine file i (Closing n)) same s)
-      | inr apart ↦
-          inl (cert_answer.Rejected (rejection.ClosingDiffers (i + 1)), total_stops claim file i (length claim.goals) (i + 1) (Closing total) (Rejected (rejection.ClosingDiffers (i + 1))) e refl s refl (apart, refl))
+    extra_line : (l : Line) → SaysLine file i l → (IsClosing l → ⊥) → IsDecided core file
+    extra_line l s c = rejected (rejection.Extra (i + 1)) (i, n, refl, inl (at_end, (l, s, c)))
+
+    ended_by : (l : Line) → SaysLine file i l → IsDecided core file
+    ended_by (Header v protocol agents) s = extra_line (Header v protocol agents) s (λ c. c)
+    ended_by (Refutation goal m) s = extra_line (Refutation goal m) s (λ c. c)
+    ended_by (Cover goal passed m) s = extra_line (Cover goal passed m) s (λ c. c)
+    ended_by (Closing total) s = elim (cases_eq total n) [
+      | inl same ↦ closed (subst (λ (k : ℕ). SaysLine file i (Closing k)) same s)
+      | inr apart ↦ rejected (rejection.ClosingDiffers (i + 1)) (i, n, total, refl, at_end, s, apart)
     ]
 
-    at_end_read : Said
-    at_end_read = elim (read_at i (omega (arith, few, place)) (inr (length claim.goals, (e.0, inr e.1)))) [
-      | inr h ↦ halted h
+    end_read : IsDecided core file
+    end_read = elim (read_at i (omega (arith, few)) (inr (inr (n, at_end)))) [
+      | inr h ↦ h
       | inl s ↦ ended_by s.0 s.1
     ]
 
-  at_fault : (o : Option GoalFault) → claim.fault ≡ o → o ≢ Some goal_fault.Memory → length claim.goals ≤ 1000000 → Stands claim file (length claim.goals) (length claim.goals + 1) → Said
-  at_fault None e h few st = at_end_read few (length claim.goals + 1) refl (st, e)
-  at_fault (Some goal_fault.GoalLimit) e h few st = inr (cert_fault.GoalLimit, (λ u. u, (length claim.goals + 1, st, e)))
-  at_fault (Some (goal_fault.Overflow goal)) e h few st = inr (cert_fault.FormOverflow goal, (λ u. u, (length claim.goals + 1, st, e)))
-  at_fault (Some goal_fault.Memory) e h few st = absurd (h refl)
+  -- ---- from line to line
+  next_line : (version n i : ℕ) (ahead : List Event) → Stands core file version n ahead i → Later n ⊎ IsDecided core file
+  next_line version n i ahead st = by (next_goal ahead n) refl
+    where
+      few : (i ≤ n + 1) × (n ≤ goal_limit)
+      few = stands_few core file version n ahead i st
 
-  few_goals : (n : ℕ) (gs : List Goal) → n ≤ 1000000 → AreGoals n gs → n + length gs ≤ 1000000
-  few_goals n [] le a = omega (arith, le)
-  few_goals n (g ∷ gs) le a = let r = few_goals (n + 1) gs (omega (arith, a.1)) a.3 in omega (arith, r)
+      by : (x : NextGoal) → next_goal ahead n ≡ x → Later n ⊎ IsDecided core file
+      by (Gives g later) e = goal_taken version n i ahead st g later e (omega (arith, few.0, few.1))
+      by NoMore e = inr (end_read version n i ahead st e (omega (arith, few.0, few.1)))
+      by Overflows e = inr (inr (cert_fault.FormOverflow n, (λ u. u, (version, i, ahead, st, e))))
+      by OverLimit e = inr (inr (cert_fault.GoalLimit, (λ u. u, inl (version, n, i, ahead, st, e))))
 
-  pub some_said : AreGoals 0 claim.goals → claim.fault ≢ Some goal_fault.Memory → Said
-  some_said a h = elim headed [
-    | inr s ↦ halted s
-    | inl st ↦ elim (goals_taken claim.goals 0 st refl a) [
-      | inr s ↦ halted s
-      | inl all ↦ at_fault claim.fault refl h (let few = few_goals 0 claim.goals (omega arith) a in omega (arith, few)) all
-    ]
+  lines_read : (fuel version n i : ℕ) (ahead : List Event) → goal_limit < n + fuel → Stands core file version n ahead i → IsDecided core file
+  lines_read zero version n i ahead enough st = let few = stands_few core file version n ahead i st in absurd (omega (arith, enough, few.1))
+  lines_read (suc fuel) version n i ahead enough st = elim (next_line version n i ahead st) [
+    | inr h ↦ h
+    | inl x ↦ lines_read fuel x.0 x.1 x.2 x.3 (omega (arith, enough, x.5)) x.4
   ]
 
--- ---- a core's claim
+  decided : IsDecided core file
+  decided = elim headed [
+    | inr h ↦ h
+    | inl x ↦ lines_read 1000001 x.0 0 1 (events_of core) (omega arith) x.1
+  ]
+
+pub files_decided : FilesAreDecided
+files_decided core file = decided core file
+
+-- ---- goals that are made
 
 -- want of memory keeps no goal from being made
 pub fault_not_memory : (es : List Event) (given : ℕ) → fault_ahead es given ≢ Some goal_fault.Memory
@@ -240,6 +310,3 @@ fault_not_memory (Meets t ∷ es) given e = by (nat_lt given goal_limit) t.fit (
     by true true later e = later e
     by true false later e = cc
     by false y later e = cc
-
-pub files_decided : FilesAreDecided
-files_decided core file = some_said (claim_on core) file (coming_goals_fit core) (fault_not_memory (events_of core) 0)

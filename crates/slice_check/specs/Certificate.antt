@@ -1,15 +1,13 @@
 -- Which files are certificates, and how far a file is right.
-use Rattle.std.specs.Prelude.{◌≡◌, ◌⊎◌, ℕ, ◌+◌, ◌<◌, ◌≤◌, ⊤, ℤ, List, [], ◌∷◌, ◌++◌, length, take, drop, Some, None}
-use Rattle.std.specs.declared.option.Option.{Option}
+use Rattle.std.specs.Prelude.{◌≡◌, ◌⊎◌, ℕ, ◌+◌, ◌≤◌, ⊤, ℤ, List, [], ◌∷◌, ◌++◌, length, drop, Some}
 use Rattle.slice_io.specs.Lines.{lines_of, LineIs}
-use Rattle.slice_linear.specs.Rows.{IsSolution, Refutes}
-use Rattle.slice_paths.specs.Goals.{Goal}
+use Rattle.slice_linear.specs.Rows.{LinearRow, Refutes}
 use Rattle.slice_core.specs.Tree.{Core}
-use Rattle.slice_paths.specs.Coming.{Coming, coming_of}
-use Rattle.slice_paths.specs.Events.{events_of}
-use Rattle.slice_paths.specs.declared.goal.GoalFault.{GoalFault}
+use Rattle.slice_paths.specs.Events.{Event, Gives, NoMore, events_of, goal_limit, next_goal}
+use Rattle.slice_paths.specs.Fronts.{ShareFirst, cover_rows, events_after}
+use Rattle.slice_paths.specs.Goals.{Goal, goals}
 use Rattle.slice_cert.specs.declared.line.Line.{Line}
-use Rattle.slice_cert.specs.declared.line.Line.TheVariants.{Header, Refutation, Closing}
+use Rattle.slice_cert.specs.declared.line.Line.TheVariants.{Header, Refutation, Cover, Closing}
 use Rattle.slice_cert.specs.CertLines.{IsLine}
 use Rattle.slice_check.specs.declared.verdict.Verdict.TheVariants.{Yes}
 use Rattle.slice_check.specs.Verdicts.{IsVerdict}
@@ -21,39 +19,37 @@ line_limit = 1048576
 abbrev pub file_limit : ℕ
 file_limit = 268435456
 
--- what is to be certified: the protocol's name and number of agents, its goals in order, and what
--- keeps further goals from being made, where something does
-pub record Claim : Type 0 where
-  pub name : List ℕ
-  pub agents : ℕ
-  pub goals : List Goal
-  pub fault : Option GoalFault
-
--- the claim of a protocol of that name with so many agents, on the goals of a stream
-abbrev pub claim_of : List ℕ → ℕ → Coming → Claim
-claim_of name agents coming = record { name = name; agents = agents; goals = coming.goals; fault = coming.fault }
-
--- the claim of a core: its goals in order, as far as they can be made
-abbrev pub claim_on : Core → Claim
-claim_on core = claim_of core.name core.agents (coming_of (events_of core) 0)
-
 -- ---- certificates
+
+-- the versions of certificates: a line of the first refutes one goal; the second has lines, too, that refute all goals with
+-- the same first passed choices
+abbrev pub IsVersion : ℕ → Type 0
+IsVersion version = (version ≡ 1) ⊎ (version ≡ 2)
 
 -- the multipliers refute the first goal
 abbrev pub RefutesFirst : List Goal → List ℤ → Type 0
 RefutesFirst [] m = ⊥
 RefutesFirst (g ∷ gs) m = Refutes g.rows m
 
+-- the multipliers refute the rows behind the first passed choices of the first goal; it and all later goals with the same
+-- ones are so many, and come first
+abbrev pub CoversFirst : Core → ℕ → List Goal → List ℤ → ℕ → Type 0
+CoversFirst core passed [] m count = ⊥
+CoversFirst core passed (g ∷ gs) m count =
+    (rows : List LinearRow) × (cover_rows core passed g.trace ≡ Some rows) × Refutes rows m × ShareFirst core passed g.trace (g ∷ gs) count
+
 -- the line takes the next goals, so many of them, where n were taken
-abbrev pub Takes : Line → ℕ → List Goal → ℕ → Type 0
-Takes (Header version protocol agents) n goals count = ⊥
-Takes (Refutation goal multipliers) n goals count = (goal ≡ n) × (count ≡ 1) × RefutesFirst goals multipliers
-Takes (Closing total) n goals count = ⊥
+abbrev pub Takes : Core → (version n : ℕ) → List Goal → Line → ℕ → Type 0
+Takes core version n gs (Header v protocol agents) count = ⊥
+Takes core version n gs (Refutation goal multipliers) count = (goal ≡ n) × (count ≡ 1) × RefutesFirst gs multipliers
+Takes core version n gs (Cover goal passed multipliers) count = (version ≡ 2) × (goal ≡ n) × CoversFirst core passed gs multipliers count
+Takes core version n gs (Closing total) count = ⊥
 
 -- the lines take the goals in order, each once, where n were taken
-abbrev pub TakeInOrder : ℕ → List Goal → List Line → Type 0
-TakeInOrder n goals [] = goals ≡ []
-TakeInOrder n goals (l ∷ ls) = (count : ℕ) × (count ≤ length goals) × Takes l n goals count × TakeInOrder (n + count) (drop count goals) ls
+abbrev pub TakeInOrder : Core → (version n : ℕ) → List Goal → List Line → Type 0
+TakeInOrder core version n gs [] = gs ≡ []
+TakeInOrder core version n gs (l ∷ ls) =
+    (count : ℕ) × (count ≤ length gs) × Takes core version n gs l count × TakeInOrder core version (n + count) (drop count gs) ls
 
 -- each text has at most so many bytes
 abbrev pub AreShort : List (List ℕ) → Type 0
@@ -67,12 +63,14 @@ AreLines [] (l ∷ ls) = ⊥
 AreLines (text ∷ texts) [] = ⊥
 AreLines (text ∷ texts) (l ∷ ls) = IsLine text l × AreLines texts ls
 
--- the file is a certificate: a header, lines that take the goals in order, the closing line, and nothing more
-pub record Accepts (claim : Claim) (file : List ℕ) : Type 0 where
+-- the file is a certificate of the core: a header, lines that take its goals in order, the closing line, and nothing more
+pub record Accepts (core : Core) (file : List ℕ) : Type 0 where
   pub short : AreShort (lines_of file)
+  pub version : ℕ
+  pub known : IsVersion version
   pub body : List Line
-  pub takes : TakeInOrder 0 claim.goals body
-  pub lines : AreLines (lines_of file) (Header 1 claim.name claim.agents ∷ (body ++ Closing (length claim.goals) ∷ []))
+  pub takes : TakeInOrder core version 0 (goals core) body
+  pub lines : AreLines (lines_of file) (Header version core.name core.agents ∷ (body ++ Closing (length (goals core)) ∷ []))
 
 -- ---- how far a file is right
 
@@ -85,49 +83,55 @@ abbrev pub SaysLines : List ℕ → ℕ → List Line → Type 0
 SaysLines file i [] = ⊤
 SaysLines file i (l ∷ ls) = SaysLine file i l × SaysLines file (i + 1) ls
 
--- the line takes the goal of that number: it has the number, and multipliers that refute the goal, whose sums fit
-abbrev pub TakesGoal : ℕ → Goal → Line → Type 0
-TakesGoal n g (Header version protocol agents) = ⊥
-TakesGoal n g (Refutation goal multipliers) = (goal ≡ n) × IsVerdict g.rows multipliers Yes
-TakesGoal n g (Closing total) = ⊥
+-- the line takes goal n, which comes next where these events are ahead, and its sums fit; then m goals are taken, and the
+-- later events are ahead. A line that covers goals passes over what is behind the same choices, unless it passes the limit
+abbrev pub Passes : Core → (version n : ℕ) → List Event → Line → ℕ → List Event → Type 0
+Passes core version n ahead (Header v protocol agents) m later = ⊥
+Passes core version n ahead (Refutation goal multipliers) m later =
+    (g : Goal) × (next_goal ahead n ≡ Gives g later) × (goal ≡ n) × IsVerdict g.rows multipliers Yes × (m ≡ n + 1)
+Passes core version n ahead (Cover goal passed multipliers) m later =
+    (g : Goal) × (rest : List Event) × (rows : List LinearRow) × (count : ℕ)
+    × (next_goal ahead n ≡ Gives g rest) × (version ≡ 2) × (goal ≡ n) × (cover_rows core passed g.trace ≡ Some rows) × IsVerdict rows multipliers Yes
+    × ShareFirst core passed g.trace (drop n (goals core)) count × (m ≡ n + count) × (m ≤ goal_limit) × (later ≡ events_after core passed g.trace)
+Passes core version n ahead (Closing total) m later = ⊥
 
--- the lines take the goals, one each in order, where n were taken
-abbrev pub AreTaken : ℕ → List Goal → List Line → Type 0
-AreTaken n [] [] = ⊤
-AreTaken n [] (l ∷ ls) = ⊥
-AreTaken n (g ∷ gs) [] = ⊥
-AreTaken n (g ∷ gs) (l ∷ ls) = TakesGoal n g l × AreTaken (n + 1) gs ls
+-- the lines do so one after another
+abbrev pub AllPass : Core → (version n : ℕ) → List Event → List Line → ℕ → List Event → Type 0
+AllPass core version n ahead [] m later = (m ≡ n) × (later ≡ ahead)
+AllPass core version n ahead (l ∷ ls) m later =
+    (k : ℕ) × (mid : List Event) × Passes core version n ahead l k mid × AllPass core version k mid ls m later
 
--- the lines before line i are right: a header, and lines that take the first n goals
-pub record Stands (claim : Claim) (file : List ℕ) (n i : ℕ) : Type 0 where
-  pub header : SaysLine file 0 (Header 1 claim.name claim.agents)
+-- the lines before line i are right: a header of that version, and lines that take the first n goals; then these events
+-- are ahead
+pub record Stands (core : Core) (file : List ℕ) (version n : ℕ) (ahead : List Event) (i : ℕ) : Type 0 where
+  pub header : SaysLine file 0 (Header version core.name core.agents)
+  pub known : IsVersion version
   pub body : List Line
   pub lines : SaysLines file 1 body
   pub next : i ≡ length body + 1
-  pub within : n ≤ length claim.goals
-  pub takes : AreTaken 0 (take n claim.goals) body
+  pub passes : AllPass core version 0 (events_of core) body n ahead
 
--- a line is read after them: a further goal is there, or the end of the goals
-abbrev pub ReadsAt : Claim → List ℕ → ℕ → ℕ → Type 0
-ReadsAt claim file n i = Stands claim file n i × ((n < length claim.goals) ⊎ (claim.fault ≡ None))
+-- the lines before line i are right, and goal n comes next
+pub record AtGoal (core : Core) (file : List ℕ) (version n i : ℕ) (g : Goal) : Type 0 where
+  pub ahead : List Event
+  pub later : List Event
+  pub stands : Stands core file version n ahead i
+  pub comes : next_goal ahead n ≡ Gives g later
 
--- line i is read as a line of the certificate
-abbrev pub IsRead : Claim → List ℕ → ℕ → Type 0
-IsRead claim file i = (i ≡ 0) ⊎ ((n : ℕ) × ReadsAt claim file n i)
+-- the lines before line i are right, and take all goals, which are n
+pub record AtEnd (core : Core) (file : List ℕ) (n i : ℕ) : Type 0 where
+  pub version : ℕ
+  pub ahead : List Event
+  pub stands : Stands core file version n ahead i
+  pub ends : next_goal ahead n ≡ NoMore
 
--- the lines before line i are right, and goal n is taken next
-abbrev pub AtGoal : Claim → List ℕ → ℕ → ℕ → Type 0
-AtGoal claim file n i = Stands claim file n i × (n < length claim.goals)
+-- line i is read as a line of the certificate: the first one; that of the next goal; or the closing line
+abbrev pub IsRead : Core → List ℕ → ℕ → Type 0
+IsRead core file i = (i ≡ 0) ⊎ (((version n : ℕ) × (g : Goal) × AtGoal core file version n i g) ⊎ ((n : ℕ) × AtEnd core file n i))
 
--- the lines before line i are right and take all goals
-abbrev pub AtEnd : Claim → List ℕ → ℕ → Type 0
-AtEnd claim file i = Stands claim file (length claim.goals) i × (claim.fault ≡ None)
-
--- the file closes before line i
-abbrev pub IsClosed : Claim → List ℕ → ℕ → Type 0
-IsClosed claim file i = (j : ℕ) × (i ≡ j + 1) × AtEnd claim file j × SaysLine file j (Closing (length claim.goals))
-
--- the rows of no goal have a solution
-abbrev pub NoneSolved : List Goal → Type 0
-NoneSolved [] = ⊤
-NoneSolved (g ∷ gs) = ((xs : List ℤ) → IsSolution g.rows xs → ⊥) × NoneSolved gs
+-- the file closes before line i, after n goals
+pub record IsClosed (core : Core) (file : List ℕ) (n i : ℕ) : Type 0 where
+  pub at : ℕ
+  pub next : i ≡ at + 1
+  pub ends : AtEnd core file n at
+  pub closes : SaysLine file at (Closing n)

@@ -6,16 +6,15 @@ use Rattle.slice_check.specs.declared.verdict.Verdict.{Verdict}
 use Rattle.slice_check.specs.declared.answer.CertAnswer.{CertAnswer}
 use Rattle.slice_check.specs.declared.answer.CertFault.{CertFault}
 use Rattle.slice_check.specs.Verdicts.{HaveOneWidth, IsVerdict}
-use Rattle.slice_check.specs.Certificate.{Claim, claim_on}
 use Rattle.slice_check.specs.Faults.{Fails, IsAnswer, IsUnread}
 
 -- an answer holds of the file, or a fault that is neither a failed read nor want of memory
-abbrev pub IsDecided : Claim → List ℕ → Type 0
-IsDecided claim file = ((a : CertAnswer) × IsAnswer claim file a) ⊎ ((f : CertFault) × ((IsUnread f → ⊥) × Fails claim file f))
+abbrev pub IsDecided : Core → List ℕ → Type 0
+IsDecided core file = ((a : CertAnswer) × IsAnswer core file a) ⊎ ((f : CertFault) × ((IsUnread f → ⊥) × Fails core file f))
 
 -- for each core, each file has an answer or such a fault
 abbrev pub FilesAreDecided : Type 0
-FilesAreDecided = (core : Core) (file : List ℕ) → IsDecided (claim_on core) file
+FilesAreDecided = (core : Core) (file : List ℕ) → IsDecided core file
 
 -- rows over as many unknowns, and multipliers, have a verdict
 abbrev pub VerdictsExist : Type 0

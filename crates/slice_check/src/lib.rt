@@ -4,7 +4,6 @@
 pub mod answer;
 pub mod check;
 pub mod completeness;
-mod goals_left;
 pub mod laws;
 pub mod verdict;
 

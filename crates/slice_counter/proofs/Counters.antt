@@ -1,5 +1,5 @@
 -- A solution of a goal's rows gives a counterexample to the goal.
-use Rattle.std.proofs.Common.{◌≡◌, ◌∙◌, ℕ, zero, suc, ◌+◌, ◌-◌, ◌*◌, ◌≤◌, ◌<◌, arith, refl, sym, ap, subst, List, [], ◌∷◌, ◌++◌, map, length, get_or, ℤ, pos, ◌<ℤ◌, sum, inl, inr, ◌≤ℤ◌, ◌^◌, drop}
+use Rattle.std.proofs.Common.{◌≡◌, ◌∙◌, ℕ, zero, suc, ◌+◌, ◌-◌, ◌*◌, ◌≤◌, ◌<◌, arith, refl, sym, ap, subst, List, [], ◌∷◌, ◌++◌, map, length, get_or, ℤ, pos, ◌<ℤ◌, sum, inl, inr, ◌≤ℤ◌, ◌^◌}
 use Rattle.std.specs.List.{All}
 use Rattle.std.proofs.lemmas.Int.{ints}
 use Rattle.std.proofs.lemmas.List.{length-map, get_or-map}
@@ -7,6 +7,7 @@ use Rattle.std.proofs.Math.ListN as raw
 use Rattle.std.proofs.lemmas.Bool.{cases_lt}
 use Rattle.slice_num.specs.Rational.{Rational, whole, IsBelow}
 use Rattle.slice_num.specs.Valuation.{Valuation, IsSmall, IsValuation, IsValuationList, cake, cake_length, share_value}
+use Rattle.slice_num.specs.declared.choice.Choice.{Choice}
 use Rattle.slice_num.specs.declared.interval.Interval.{Interval}
 use Rattle.slice_num.proofs.FieldLaws.{whole_below, times_one, minus_above_out}
 use Rattle.slice_core.specs.Tree.{Core}
@@ -29,7 +30,8 @@ use Rattle.slice_atoms.specs.Forms.{Form, fixed_form, piece_form, all_coefs}
 use Rattle.slice_paths.specs.Places.{Condition, PassedCut, Way, Stop, AtEnd, AtCut, Place, places, first_way, first_conditions, whole_condition, whole_conditions}
 use Rattle.slice_paths.specs.Goals.{row_of, rows_of, pairs, envy_form, Aim, aims_at, stuck_kind, Goal, goal_of}
 use Rattle.slice_paths.specs.Points.{Points, IsInside, atom_values, agent_values, unknown_values, stretch_of}
-use Rattle.slice_paths.specs.RunLaws.{EndsAs}
+use Rattle.slice_paths.specs.RunLaws.{EndsAs, PassesRows}
+use Rattle.slice_paths.specs.Ways.{rows_after}
 use Rattle.slice_paths.specs.declared.goal.GoalKind.{GoalKind}
 use Rattle.slice_paths.specs.declared.goal.GoalKind.TheVariants.{Envy}
 use Rattle.slice_paths.proofs.Fits.{none, one, IsIn, form_value, OwnHolds}
@@ -40,6 +42,7 @@ use Rattle.slice_paths.proofs.Found.{place_atoms}
 use Rattle.slice_paths.proofs.GoalLaws.{aims_out, of_aim, count_atoms}
 use Rattle.slice_paths.proofs.Later.{Refines, later, refines_self}
 use Rattle.slice_paths.proofs.Held.{first_held}
+use Rattle.slice_paths.proofs.OnTheWay.{runs_obey_on_the_way}
 use Rattle.slice_paths.proofs.Follows.{end_at, AllCut, answer_to, Followed, follows, value_minus, value_share}
 use Rattle.slice_counter.specs.Counter.{GoesTo, EndGoesTo, IsCounterexample, IsLow, unit_steps, lists_of, valuations_of, boundary, answers_of, SolutionsGiveCounterexamples}
 use Rattle.slice_counter.proofs.UnitSteps.{units_cake, units_small, units_valuation, spread, cake_of_spread, all_inside, boundary_point, heights_times}
@@ -195,7 +198,7 @@ goes_at g (AtCut at own) s h = h
 
 -- ---- a place whose rows hold
 module _ (core : Core) (is : HasAgents core.agents core.tree) (some_agent : 0 < core.agents) (p : Place) (one_ : IsIn p (places core.tree [] (first_way core.agents))) (total : ℤ) (zs : List ℤ) (not_below : All NotBelow zs)
-    (long : length zs ≡ core.agents * atom_count p.way.cake) (rows : (d : Condition) → IsIn d p.way.conditions → Holds (total ∷ zs) (row_of core.agents p.way.cake d)) (few : most_cuts core.tree ≤ 64) (low : All (λ z. z ≤ℤ pos (10 ^ 18)) zs) where
+    (long : length zs ≡ core.agents * atom_count p.way.cake) (rows : (d : Condition) → IsIn d p.way.conditions → Holds (total ∷ zs) (row_of core.agents p.way.cake d)) where
   abbrev n : ℕ
   n = core.agents
 
@@ -229,7 +232,7 @@ module _ (core : Core) (is : HasAgents core.agents core.tree) (some_agent : 0 < 
   is_inside : IsInside (spread 0 k.cake) whole_cake
   is_inside = inside n some_agent k.cake total zs not_below long first each
 
-  meets : (d : Condition) → Holds (total ∷ zs) (row_of n k.cake d) → Meets d.kind (form_value worth n (spread 0 k.cake) whole_cake d.form)
+  pub meets : (d : Condition) → Holds (total ∷ zs) (row_of n k.cake d) → Meets d.kind (form_value worth n (spread 0 k.cake) whole_cake d.form)
   meets = row_meets n some_agent k.cake total zs not_below long first each
 
   module _ (own : OwnHolds worth n (spread 0 k.cake) whole_cake p.stop) where
@@ -247,8 +250,18 @@ module _ (core : Core) (is : HasAgents core.agents core.tree) (some_agent : 0 < 
         ap (λ (ys : List CutAnswer). run_core worth core (length_of values) ys) (sym (followed.answers_are ∙ answers_are worth n (length_of values) are_measures whole_cake k.cake is_inside k.cuts followed.tracks.cut_there))
         ∙ followed.ends
 
-    counter : (q : ℕ) (kind : GoalKind) (f : Form) → EndsAs worth kind (end_at p.stop state) → IsCounterexample core values (answers_of k) (goal_of n q (record { way = k; kind = kind; own = f }))
-    counter q kind f ends = record {
+    passed_at : (stop : Stop) (s : State) → PassesRows core (end_at stop s) → (front rest : List Choice) → front ++ rest ≡ s.trace → (ys : List ℤ) × IsSolution (rows_after core front) ys
+    passed_at AtEnd s h = h
+    passed_at (AtCut at own) s h = h
+
+    -- after each front of the choices to the place the rows so far have a solution
+    pub solved_on_the_way : (front rest : List Choice) → front ++ rest ≡ k.trace → (ys : List ℤ) × IsSolution (rows_after core front) ys
+    solved_on_the_way front rest e =
+        passed_at p.stop state (subst (PassesRows core) run_is (runs_obey_on_the_way core worth (length_of values) (answers_of k) is are_measures)) front rest (e ∙ sym followed.tracks.held.trace)
+
+    -- where no number is too great
+    counter : most_cuts core.tree ≤ 64 → All (λ z. z ≤ℤ pos (10 ^ 18)) zs → (q : ℕ) (kind : GoalKind) (f : Form) → EndsAs worth kind (end_at p.stop state) → IsCounterexample core values (answers_of k) (goal_of n q (record { way = k; kind = kind; own = f }))
+    counter few low q kind f ends = record {
       valuations = good_list;
       small = is_small n some_agent k.cake total zs not_below long first each (let a = place_atoms core p one_ in omega (arith, a, few)) low;
       goes = subst (EndGoesTo (goal_of n q (record { way = k; kind = kind; own = f }))) (sym run_is) (goes_at (goal_of n q (record { way = k; kind = kind; own = f })) p.stop state (followed.tracks.held.trace, followed.tracks.held.queries));
@@ -264,40 +277,43 @@ module _ (core : Core) (is : HasAgents core.agents core.tree) (some_agent : 0 < 
         share i = value_share worth n (length_of values) are_measures whole_cake (spread 0 k.cake) is_inside state k a i followed.tracks (subst (Refines k.cake) (sym (cake_of_spread 0 k.cake)) (refines_self k.cake)) agent
 
 -- ---- a goal's rows
-module _ (core : Core) (number : ℕ) (is : HasAgents core.agents core.tree) (some_agent : 0 < core.agents) (few : most_cuts core.tree ≤ 64) where
-  abbrev Solves : Aim → Type 0
-  Solves aim = (xs : List ℤ) → length xs ≡ 1 + core.agents * atom_count aim.way.cake → All (λ z. z ≤ℤ pos (10 ^ 18)) (drop 1 xs) → IsSolution (rows_of core.agents aim.way aim.own) xs
-      → IsCounterexample core (valuations_of core.agents aim.way.cake xs) (answers_of aim.way) (goal_of core.agents number aim)
+-- what the parts of a solution say
+pub solution_parts : (core : Core) (k : Way) (f : Form) (C : List ℤ → Type 0)
+    → ((total : ℤ) (zs : List ℤ) → All NotBelow zs → length zs ≡ core.agents * atom_count k.cake → ((d : Condition) → IsIn d k.conditions → Holds (total ∷ zs) (row_of core.agents k.cake d))
+    → Holds (total ∷ zs) (row_of core.agents k.cake (record { kind = Above; form = f })) → C (total ∷ zs))
+    → (xs : List ℤ) → length xs ≡ 1 + core.agents * atom_count k.cake → IsSolution (rows_of core.agents k f) xs → C xs
+solution_parts core k f C go [] l s = absurd (omega (arith, l))
+solution_parts core k f C go (total ∷ zs) l s =
+    let own : Condition = record { kind = Above; form = f } in
+    let below = solution_not_below (rows_of core.agents k f) (total ∷ zs) s in
+    let holds = solution_holds (rows_of core.agents k f) (total ∷ zs) s in
+    go total zs (λ j d m. below (suc j) d (omega (arith, m))) (omega (arith, l))
+    (λ d i. all_in_map (row_of core.agents k.cake) (Holds (total ∷ zs)) (k.conditions ++ own ∷ []) d holds (in_left d k.conditions (own ∷ []) i))
+    (all_in_map (row_of core.agents k.cake) (Holds (total ∷ zs)) (k.conditions ++ own ∷ []) own holds (in_right own k.conditions (own ∷ []) (inl refl)))
 
-  -- what the parts of a solution say
-  solved : (stop : Stop) (k : Way) (kind : GoalKind) (f : Form) → IsIn {A = Place} (record { stop = stop; way = k }) (places core.tree [] (first_way core.agents))
-      → ((total : ℤ) (zs : List ℤ) (b : All NotBelow zs) (l : length zs ≡ core.agents * atom_count k.cake) (rows : (d : Condition) → IsIn d k.conditions → Holds (total ∷ zs) (row_of core.agents k.cake d)) → All (λ z. z ≤ℤ pos (10 ^ 18)) zs → Holds (total ∷ zs) (row_of core.agents k.cake (record { kind = Above; form = f }))
-      → IsCounterexample core (map unit_steps (lists_of core.agents (atom_count k.cake) zs)) (answers_of k) (goal_of core.agents number (record { way = k; kind = kind; own = f })))
-      → Solves (record { way = k; kind = kind; own = f })
-  solved stop k kind f one_ go [] l low s = absurd (omega (arith, l))
-  solved stop k kind f one_ go (total ∷ zs) l low s =
-      let below = solution_not_below (rows_of core.agents k f) (total ∷ zs) s in
-      let holds = solution_holds (rows_of core.agents k f) (total ∷ zs) s in
-      go total zs (λ j d m. below (suc j) d (omega (arith, m))) (omega (arith, l))
-      (λ d i. all_in_map (row_of core.agents k.cake) (Holds (total ∷ zs)) (k.conditions ++ record { kind = Above; form = f } ∷ []) d holds (in_left d k.conditions (record { kind = Above; form = f } ∷ []) i))
-      low
-      (all_in_map (row_of core.agents k.cake) (Holds (total ∷ zs)) (k.conditions ++ record { kind = Above; form = f } ∷ []) (record { kind = Above; form = f }) holds (in_right (record { kind = Above; form = f }) k.conditions (record { kind = Above; form = f } ∷ []) (inl refl)))
+module _ (core : Core) (number : ℕ) (is : HasAgents core.agents core.tree) (some_agent : 0 < core.agents) (few : most_cuts core.tree ≤ 64) where
+  abbrev Counters : Aim → List ℤ → Type 0
+  Counters aim xs = IsLow xs → IsCounterexample core (valuations_of core.agents aim.way.cake xs) (answers_of aim.way) (goal_of core.agents number aim)
+
+  abbrev Solves : Aim → Type 0
+  Solves aim = (xs : List ℤ) → length xs ≡ 1 + core.agents * atom_count aim.way.cake → IsSolution (rows_of core.agents aim.way aim.own) xs → Counters aim xs
 
   solves : (stop : Stop) (k : Way) → IsIn {A = Place} (record { stop = stop; way = k }) (places core.tree [] (first_way core.agents)) → (aim : Aim) → IsIn aim (aims_at core.agents stop k) → Solves aim
   solves (AtCut at own) k one_ aim (inl e) =
+      let own_aim : Aim = record { way = k; kind = stuck_kind at; own = own } in
       subst Solves (sym e)
-      (solved (AtCut at own) k (stuck_kind at) own one_ (λ total zs b l rows low h.
-      counter core is some_agent (record { stop = AtCut at own; way = k }) one_ total zs b l rows few low
-      (meets core is some_agent (record { stop = AtCut at own; way = k }) one_ total zs b l rows few low (record { kind = Above; form = own }) h) number (stuck_kind at) own refl))
+      (solution_parts core k own (Counters own_aim) (λ total zs b l rows h low.
+      counter core is some_agent (record { stop = AtCut at own; way = k }) one_ total zs b l rows
+      (meets core is some_agent (record { stop = AtCut at own; way = k }) one_ total zs b l rows (record { kind = Above; form = own }) h) few low number (stuck_kind at) own refl))
   solves (AtCut at own) k one_ aim (inr h) = absurd h
   solves AtEnd k one_ aim i =
       let f : ℕ × ℕ → Aim = λ q. record { way = k; kind = Envy q.0 q.1; own = envy_form q.0 q.1 k } in
       let r = map_out f aim (pairs core.agents core.agents) i in
       subst Solves (sym r.2)
-      (solved AtEnd k (Envy r.0.0 r.0.1) (envy_form r.0.0 r.0.1 k) one_ (λ total zs b l rows low h.
-      counter core is some_agent (record { stop = AtEnd; way = k }) one_ total zs b l rows few low tt number (Envy r.0.0 r.0.1) (envy_form r.0.0 r.0.1 k)
-      (envies core is some_agent (record { stop = AtEnd; way = k }) one_ total zs b l rows few low tt r.0.0 r.0.1 (first_of_pair r.0 core.agents core.agents r.1)
-      (meets core is some_agent (record { stop = AtEnd; way = k }) one_ total zs b l rows few low (record { kind = Above; form = envy_form r.0.0 r.0.1 k }) h))))
+      (solution_parts core k (envy_form r.0.0 r.0.1 k) (Counters (f r.0)) (λ total zs b l rows h low.
+      counter core is some_agent (record { stop = AtEnd; way = k }) one_ total zs b l rows tt few low number (Envy r.0.0 r.0.1) (envy_form r.0.0 r.0.1 k)
+      (envies core is some_agent (record { stop = AtEnd; way = k }) one_ total zs b l rows tt r.0.0 r.0.1 (first_of_pair r.0 core.agents core.agents r.1)
+      (meets core is some_agent (record { stop = AtEnd; way = k }) one_ total zs b l rows (record { kind = Above; form = envy_form r.0.0 r.0.1 k }) h))))
 
 -- a goal and its way
 abbrev GivesCounterexample : Core → List ℤ → Goal → Way → Type 0
@@ -308,4 +324,4 @@ solutions_give_counterexamples core g xs is some_agent few one_ =
     let o = of_aim core g one_ in
     let p = aims_out core.agents (places core.tree [] (first_way core.agents)) o.aim o.is_one in
     subst (GivesCounterexample core xs g) (sym o.way_is)
-    (subst (λ (x : Goal). GivesCounterexample core xs x o.aim.way) (sym o.is) (solves core o.number is some_agent few p.0.stop p.0.way p.1 o.aim p.2 xs))
+    (subst (λ (x : Goal). GivesCounterexample core xs x o.aim.way) (sym o.is) (λ l low s. solves core o.number is some_agent few p.0.stop p.0.way p.1 o.aim p.2 xs l s low))

@@ -1,6 +1,7 @@
 pub mod UnitSteps
 pub mod RowsBack
 pub mod Counters
+pub mod OnTheWay
 pub mod Unfair
 pub mod Steps
 pub mod Positions

@@ -1,8 +1,9 @@
 -- What a counterexample to a goal is, and the one that a solution of its rows gives.
-use Rattle.std.specs.Prelude.{◌≡◌, ℕ, zero, suc, ◌+◌, ◌*◌, ◌<◌, ◌≤◌, ◌≤ℤ◌, ◌^◌, pos, List, [], ◌∷◌, map, length, take, drop, ℤ, unsigned_abs}
+use Rattle.std.specs.Prelude.{◌≡◌, ℕ, zero, suc, ◌+◌, ◌*◌, ◌<◌, ◌≤◌, ◌≤ℤ◌, ◌^◌, pos, List, [], ◌∷◌, ◌++◌, map, length, take, drop, ℤ, unsigned_abs}
 use Rattle.std.specs.List.{All, Contains}
 use Rattle.slice_num.specs.Rational.{whole}
 use Rattle.slice_num.specs.Valuation.{Valuation, IsSmall, IsValuationList}
+use Rattle.slice_num.specs.declared.choice.Choice.{Choice}
 use Rattle.slice_num.specs.declared.cut_answer.CutAnswer.{CutAnswer}
 pub use Rattle.slice_step.specs.UnitSteps.{unit_ends, unit_steps}
 use Rattle.slice_core.specs.Tree.{Core}
@@ -15,7 +16,7 @@ use Rattle.slice_linear.specs.Rows.{IsSolution}
 use Rattle.slice_atoms.specs.Addresses.{atom_count, L, R, Address, Cake, Atom, Halves}
 use Rattle.slice_paths.specs.Places.{PassedCut, Way}
 use Rattle.slice_paths.specs.Goals.{Goal, goals}
-use Rattle.slice_paths.specs.Ways.{way_of}
+use Rattle.slice_paths.specs.Ways.{way_of, rows_after}
 use Rattle.slice_paths.specs.RunLaws.{EndsAs}
 
 -- ---- what it is
@@ -73,6 +74,12 @@ SolutionsGiveCounterexamples =
     (core : Core) (g : Goal) (xs : List ℤ) → HasAgents core.agents core.tree → 0 < core.agents → most_cuts core.tree ≤ 64 → Contains (goals core) g
     → length xs ≡ 1 + core.agents * atom_count (way_of core g.trace).cake → IsLow xs → IsSolution g.rows xs
     → IsCounterexample core (valuations_of core.agents (way_of core g.trace).cake xs) (answers_of (way_of core g.trace)) g
+
+-- where the rows of a goal have a solution, those after each front of its choices have one
+abbrev pub GoalsAreSolvedOnTheirWay : Type 0
+GoalsAreSolvedOnTheirWay =
+    (core : Core) (g : Goal) (xs : List ℤ) → HasAgents core.agents core.tree → 0 < core.agents → Contains (goals core) g → IsSolution g.rows xs
+    → (front rest : List Choice) → front ++ rest ≡ g.trace → (ys : List ℤ) × IsSolution (rows_after core front) ys
 
 -- a run that is a counterexample to a goal is stuck, or leaves envy
 abbrev pub CounterexamplesAreUnfair : Type 0

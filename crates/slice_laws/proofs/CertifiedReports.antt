@@ -1,7 +1,8 @@
 -- A report of `verify` that ends well is a certificate.
-use Rattle.std.proofs.Common.{◌≡◌, ◌∙◌, ℕ, ◌+◌, ◌≤◌, arith, refl, sym, ap, subst, ℤ, pos, inl, inr, List, [], ◌∷◌, ◌++◌, length, map, Option, Some, None, append_assoc}
+use Rattle.std.proofs.Common.{◌≡◌, ◌∙◌, ℕ, ◌+◌, ◌<◌, ◌≤◌, arith, sym, ap, subst, ℤ, pos, inl, inr, List, [], ◌∷◌, ◌++◌, length, append-nil}
 use Rattle.std.specs.List.{All}
 use Rattle.std.proofs.lemmas.List.{get_or_default}
+use Rattle.std.proofs.lemmas.List.Elements.{All-take}
 use Rattle.std.proofs.lemmas.List.FromFn.{length-map-range_with_len}
 use Rattle.slice_num.specs.Pieces.{joined}
 use Rattle.slice_num.specs.Rational.{Fits}
@@ -9,27 +10,30 @@ use Rattle.slice_core.specs.Tree.{Core}
 use Rattle.slice_core.specs.WellFormed.{IsWellFormed}
 use Rattle.slice_linear.specs.Sums.{at}
 use Rattle.slice_linear.specs.Rows.{LinearRow, AreRowsOver, width}
-use Rattle.slice_paths.specs.Coming.{AreGoals}
-use Rattle.slice_paths.specs.Goals.{Goal}
-use Rattle.slice_paths.specs.declared.goal.GoalFault.{GoalFault}
-use Rattle.slice_paths.proofs.ComingLaws.{goals_come_first}
-use Rattle.slice_paths.proofs.GoodRows.{coming_goals_fit}
+use Rattle.slice_paths.specs.Events.{Event, NextGoal, events_of, next_goal}
 use Rattle.slice_simplex.specs.Ends.{end_multiplier, end_multipliers, end_solution}
-use Rattle.slice_simplex.specs.ProverAnswer.{IsProverAnswer, RefutedBy, SolvedBy, AtLimit, Unfit}
-use Rattle.slice_simplex.proofs.EndFacts.{end_decides, multipliers_refute}
+use Rattle.slice_simplex.specs.ProverAnswer.{IsProverAnswer, RefutedBy}
+use Rattle.slice_simplex.proofs.EndFacts.{end_decides}
 use Rattle.slice_simplex.proofs.Made.{end_of}
 use Rattle.slice_simplex.proofs.Once.{same_multipliers, not_both_ends}
-use Rattle.slice_cert.specs.declared.line.Line.TheVariants.{Header, Refutation, Closing}
-use Rattle.slice_cert.specs.CertLines.{line_text}
-use Rattle.slice_check.specs.Certificate.{Accepts, claim_on}
-use Rattle.slice_report.specs.declared.refusal.Refusal.TheVariants as refusal
-use Rattle.slice_verify.specs.Report.{AreRefuted, texts_after, refutations, pivot_limit}
-use Rattle.slice_verify.proofs.Accepted.{accepted}
-use Rattle.slice_verify.proofs.Standing.{AllReadBack}
-use Rattle.slice_top.specs.Answers.{Answer, DecidesAll, IsVerifyAnswer, Closes}
+use Rattle.slice_cert.specs.declared.line.Line.{Line}
+use Rattle.slice_cert.specs.declared.line.Line.TheVariants.{Header, Closing}
+use Rattle.slice_cert.specs.CertLines.{MayStand, line_text}
+use Rattle.slice_cert.specs.ShortForms.{needed, short_line, used}
+use Rattle.slice_cert.proofs.Used.{short_is}
+use Rattle.slice_check.specs.Certificate.{Accepts, line_limit}
+use Rattle.slice_verify.specs.Report.{AreTaken, IsTaken, pivot_limit, texts_after}
+use Rattle.slice_verify.specs.Working.{ReadsBack}
+use Rattle.slice_verify.proofs.Accepted.{certified}
+use Rattle.slice_verify.proofs.RowCount.{few_rows}
+use Rattle.slice_verify.proofs.Short.{short_line_short}
+use Rattle.slice_verify.proofs.Standing.{AllReadBack, AllShort}
+use Rattle.slice_top.specs.Answers.{Answer, Closes, IsVerifyAnswer}
 use Rattle.slice_top.specs.declared.status.Status.TheVariants as status
+use Rattle.slice_top.proofs.Decided.{texts_on}
+use Rattle.slice_top.proofs.Good.{closed_well}
+use Rattle.slice_top.proofs.Taking.{Stands, all_taken, comes, stands_first, stands_next, took_first}
 use Rattle.slice_laws.proofs.FittingTables.{multipliers_fit}
-use Rattle.slice_top.proofs.Good.{not_countered, refused_not_good}
 use Rattle.slice_laws.proofs.LinesBack.{line_back}
 
 -- ---- multipliers
@@ -46,60 +50,49 @@ given_fit rows m are is i d lt =
     subst Fits (get_or_default m i (pos 0) d lt)
     (subst (λ (xs : List ℤ). Fits (at xs i)) same (multipliers_fit rows run.pivots run.last are run.ends i (omega (arith, lt, long))))
 
--- ---- goals
+-- ---- lines
 
--- the goals from the k-th on are refuted, each line reads back, and no further goal is refused
-record Refuted (n k : ℕ) (f : Option GoalFault) (gs : List Goal) (a : Answer) : Type 0 where
-  ms : List (List ℤ)
-  refuted : AreRefuted gs ms
-  read : AllReadBack (refutations k ms)
-  none : f ≡ None
-  text : a.text ≡ joined (map line_text (refutations k ms)) ++ line_text (Closing n)
+-- the short form of a line may stand in a certificate
+may_stand : (agents n : ℕ) (m : List ℤ) → n < 1000000 → length m ≤ 529 → All Fits m → MayStand (short_line agents n m)
+may_stand agents n m goal few fit =
+    short_is MayStand agents n m (λ e. (omega (arith, goal), fit))
+    (λ lt. (omega (arith, goal), (let front : needed agents m ≤ used m = omega arith in omega (arith, few, lt, front)), All-take Fits (1 + agents + needed agents m) m fit))
 
-all_closed : (n k : ℕ) (f : Option GoalFault) (a : Answer) → Closes n f a → a.status ≡ status.Good → Refuted n k f [] a
-all_closed n k None a h good = record { ms = []; refuted = tt; read = tt; none = refl; text = ap (λ (x : Answer). x.text) h }
-all_closed n k (Some f) a h good = absurd (refused_not_good h.0 a h.1.1 good)
+-- each line reads back, and none is too long
+record AreRight (ls : List Line) : Type 0 where
+  read : AllReadBack ls
+  short : AllShort ls
 
-all_refuted : (core : Core) (n k : ℕ) (f : Option GoalFault) (gs : List Goal) (a : Answer) → AreGoals k gs → DecidesAll core n f gs a → a.status ≡ status.Good → Refuted n k f gs a
-all_refuted core n k f [] a fit d good = all_closed n k f a d good
-all_refuted core n k f (g ∷ gs) a fit (RefutedBy m, (is, (b, (d, e)))) good =
-    let rest = all_refuted core n (k + 1) f gs b fit.3 d (sym (ap (λ (x : Answer). x.status) e) ∙ good) in
-    let later = joined (map line_text (refutations (k + 1) rest.ms)) in
+all_right : (core : Core) → IsWellFormed core → (n : ℕ) (ahead : List Event) (ls : List Line) (m : ℕ) (later : List Event) → Stands core n ahead → AreTaken core n ahead ls m later → AreRight ls
+all_right core formed n ahead [] m later s h = record { read = tt; short = tt }
+all_right core formed n ahead (l ∷ ls) m later s h =
+    let t : IsTaken core n ahead l = h.0 in
+    let c = comes core n ahead t.goal t.later s t.comes in
+    let long = t.refuted.refutes.same_length in
+    let rows = few_rows core t.goal formed c.is_goal in
+    let goal = c.first.few in
+    let text = short_line_short core.agents n t.multipliers in
+    let may = may_stand core.agents n t.multipliers (omega (arith, goal)) (omega (arith, long, rows)) (given_fit t.goal.rows t.multipliers c.rows t.refuted.ends) in
+    let rest = all_right core formed h.1 h.2 ls m later (stands_next core n ahead l t h.1 h.2 s h.3) h.5 in
     record {
-      ms = m ∷ rest.ms;
-      refuted = (record { ends = is; refutes = multipliers_refute g.rows m fit.2 is.0 }, rest.refuted);
-      read = (line_back (Refutation k m) ((let h = fit.1 in omega (arith, h)), given_fit g.rows m fit.2 is), rest.read);
-      none = rest.none;
-      text =
-          ap (λ (x : Answer). x.text) e ∙ ap (λ xs. line_text (Refutation g.number m) ++ xs) rest.text
-          ∙ ap (λ i. line_text (Refutation i m) ++ (later ++ line_text (Closing n))) fit.0
-          ∙ sym (append_assoc (line_text (Refutation k m)) later (line_text (Closing n)));
+      read = (subst ReadsBack (sym t.line) (line_back (short_line core.agents n t.multipliers) may), rest.read);
+      short = (subst (λ (k : Line). length (line_text k) ≤ line_limit) (sym t.line) (omega (arith, long, rows, text)), rest.short);
     }
-all_refuted core n k f (g ∷ gs) a fit (SolvedBy xs, (is, h)) good = absurd (not_countered core g xs a h good)
-all_refuted core n k f (g ∷ gs) a fit (AtLimit, (is, e)) good = absurd (refused_not_good (refusal.PivotLimit g.number) a e good)
-all_refuted core n k f (g ∷ gs) a fit (Unfit pivots row col, (is, e)) good = absurd (refused_not_good (refusal.ProverOverflow g.number pivots row col) a e good)
-
-few_goals : (k : ℕ) (gs : List Goal) → k ≤ 1000000 → AreGoals k gs → k + length gs ≤ 1000000
-few_goals k [] le h = omega (arith, le)
-few_goals k (g ∷ gs) le h = let less = h.1 in let rest = few_goals (k + 1) gs (omega (arith, less)) h.3 in omega (arith, rest)
 
 -- ---- the report
 
-pub good_is_accepted : (core : Core) (a : Answer) → IsWellFormed core → IsVerifyAnswer core a → a.status ≡ status.Good → Accepts (claim_on core) a.text
-good_is_accepted core a formed (b, (d, e)) good =
-    let claim = claim_on core in
-    let n = length claim.goals in
-    let r = all_refuted core n 0 claim.fault claim.goals b (coming_goals_fit core) d (sym (ap (λ (x : Answer). x.status) e) ∙ good) in
-    let header = line_text (Header 1 core.name core.agents) in
-    let lines = joined (map line_text (refutations 0 r.ms)) in
-    let out : List ℕ = joined (texts_after core r.ms) in
-    let few = few_goals 0 claim.goals (omega arith) (coming_goals_fit core) in
-    let front = line_back (Header 1 core.name core.agents) (formed.named, omega arith, (let agents = formed.few_agents in omega (arith, agents))) in
+pub good_is_accepted : (core : Core) (a : Answer) → IsWellFormed core → IsVerifyAnswer core a → a.status ≡ status.Good → Accepts core a.text
+good_is_accepted core a formed (ls, n, ahead, taken, b, c, e) good =
+    let none = closed_well core n (next_goal ahead n) b c (sym (ap (λ (x : Answer). x.status) e) ∙ good) in
+    let closing = subst (λ (x : NextGoal). Closes core n x b) none c in
+    let all = all_taken core ls n ahead taken none in
+    let right = all_right core formed 0 (events_of core) ls n ahead (stands_first core) taken in
+    let front = line_back (Header 2 core.name core.agents) (formed.named, omega arith, (let agents = formed.few_agents in omega (arith, agents))) in
+    let few = (took_first core ls n ahead taken).few (omega arith) in
     let back = line_back (Closing n) (omega (arith, few)) in
-    let is = accepted core (Some []) (Some out) (Some (out ++ line_text (Closing n))) r.ms n goals_come_first formed (r.refuted, r.none, refl) (front, r.read) back refl refl in
-    let whole : a.text ≡ out ++ line_text (Closing n) =
-    ap (λ (x : Answer). x.text) e ∙ ap (λ xs. header ++ xs) r.text ∙ sym (append_assoc header lines (line_text (Closing n))) in
-    subst (Accepts claim) (some_same (sym is.2) ∙ sym whole) is.1
-  where
-    some_same : {xs ys : List ℕ} → Some xs ≡ Some ys → xs ≡ ys
-    some_same e = cc
+    let is = certified core ls n formed all.0 all.1 (front, right.read) right.short back in
+    let out : List ℕ = joined (texts_after core ls) in
+    let whole : a.text ≡ joined (texts_after core (ls ++ Closing n ∷ [])) =
+    ap (λ (x : Answer). x.text) e ∙ ap (λ (x : Answer). out ++ x.text) closing
+    ∙ sym (texts_on core ls (Closing n ∷ []) ∙ ap (λ xs. out ++ xs) (append-nil (line_text (Closing n)))) in
+    subst (Accepts core) (sym whole) is

@@ -6,6 +6,7 @@ mod FittingTables
 mod Heights
 mod Judged
 mod LinesBack
+mod MadeGoals
 mod Onward
 mod Refuted
 mod Replayed
@@ -14,3 +15,4 @@ mod SomeAnswers
 mod ToldRuns
 mod UniqueAnswers
 mod Verified
+mod Written

@@ -24,7 +24,7 @@ use Rattle.slice_num.specs.Rational.{Fits}
 use Rattle.slice_json.proofs.LineEnds.{no_end_in_text}
 use Rattle.slice_json.specs.Texts.{whole, text, signed, list_of}
 use Rattle.slice_cert.specs.declared.line.Line.{Line}
-use Rattle.slice_cert.specs.declared.line.Line.TheVariants.{Header, Refutation, Closing}
+use Rattle.slice_cert.specs.declared.line.Line.TheVariants.{Header, Refutation, Cover, Closing}
 use Rattle.slice_cert.specs.CertLines.{line_json, line_text, IsWrittenLine, MayStand}
 use Rattle.slice_cert.proofs.Plain.{name_utf8}
 use Rattle.slice_cert.proofs.Written.{few_levels, written}
@@ -89,25 +89,19 @@ back_two k l d e u v order b c = record {
   valid = IsUtf8-append (123 ∷ []) (members_text false (member k d (member l e no_members))) (IsUtf8-are_ascii (123 ∷ []) refl) (valid_member false k d (member l e no_members) u b (valid_member true l e no_members v c valid_end));
 }
 
-back_header : (version agents : ℕ) (protocol : List ℕ) → version < 2 ^ 64 → agents < 2 ^ 64 → IsUtf8 protocol → Back (line_json (Header version protocol agents))
-back_header version agents protocol v a u =
-    let m3 = member (codes "protocol") (text protocol) no_members in
-    let m2 = member (codes "certificate") (whole version) m3 in
-    let f1 = member (codes "agents") (whole agents) no_members in
-    let f2 = member (codes "agents") (whole agents) (member (codes "certificate") (whole version) no_members) in
-    let first = back_whole agents a in
-    let second = back_whole version v in
-    let third = back_text protocol u in
+back_three : (k l m : List ℕ) (d e f : Data) → IsUtf8 k → IsUtf8 l → IsUtf8 m → put l e (member k d no_members) ≡ member k d (member l e no_members)
+    → put m f (member k d (member l e no_members)) ≡ member k d (member l e (member m f no_members)) → Back d → Back e → Back f → Back (object (member k d (member l e (member m f no_members))))
+back_three k l m d e f u v w second third a b c =
+    let rest = member m f no_members in
     record {
-      numbers = (first.numbers, (second.numbers, (third.numbers, tt)));
+      numbers = (a.numbers, (b.numbers, (c.numbers, tt)));
       same = ap (option_map object)
-          (one_read (codes "agents") (whole agents) m2 no_members first
-          ∙ (one_read (codes "certificate") (whole version) m3 f1 second ∙ one_read (codes "protocol") (text protocol) no_members f2 third));
-      valid =
-          IsUtf8-append (123 ∷ []) (members_text false (member (codes "agents") (whole agents) m2)) (IsUtf8-are_ascii (123 ∷ []) refl)
-          (valid_member false (codes "agents") (whole agents) m2 (IsUtf8-are_ascii (codes "agents") refl) first
-          (valid_member true (codes "certificate") (whole version) m3 (IsUtf8-are_ascii (codes "certificate") refl) second
-          (valid_member true (codes "protocol") (text protocol) no_members (IsUtf8-are_ascii (codes "protocol") refl) third valid_end)));
+          (one_read k d (member l e rest) no_members a
+          ∙ (one_read l e rest (member k d no_members) b
+          ∙ (ap (of_members (members_outline rest)) second
+          ∙ (one_read m f no_members (member k d (member l e no_members)) c ∙ ap Some third))));
+      valid = IsUtf8-append (123 ∷ []) (members_text false (member k d (member l e rest))) (IsUtf8-are_ascii (123 ∷ []) refl)
+          (valid_member false k d (member l e rest) u a (valid_member true l e rest v b (valid_member true m f no_members w c valid_end)));
     }
 
 -- ---- multipliers
@@ -124,13 +118,23 @@ each_fits : (zs : List ℤ) → All Fits zs → AllByRecursion Fits zs
 each_fits [] h = tt
 each_fits (z ∷ zs) h = (h 0 z (omega arith), each_fits zs (λ k d l. h (suc k) d (omega (arith, l))))
 
+back_list : (zs : List ℤ) → All Fits zs → Back (list_of signed zs)
+back_list zs h = back_array (items_of (map signed zs)) (back_items signed Fits back_signed zs (each_fits zs h))
+
 -- ---- the lines
 
 back_line : (l : Line) → MayStand l → Back (line_json l)
-back_line (Header version protocol agents) m = back_header version agents protocol (let v = m.1 in omega (arith, v)) (let a = m.2 in omega (arith, a)) (name_utf8 protocol m.0)
+back_line (Header version protocol agents) m =
+    back_three (codes "agents") (codes "certificate") (codes "protocol") (whole agents) (whole version) (text protocol)
+    (IsUtf8-are_ascii (codes "agents") refl) (IsUtf8-are_ascii (codes "certificate") refl) (IsUtf8-are_ascii (codes "protocol") refl) refl refl
+    (back_whole agents (let a = m.2 in omega (arith, a))) (back_whole version (let v = m.1 in omega (arith, v))) (back_text protocol (name_utf8 protocol m.0))
 back_line (Refutation goal multipliers) m =
     back_two (codes "goal") (codes "multipliers") (whole goal) (list_of signed multipliers) (IsUtf8-are_ascii (codes "goal") refl) (IsUtf8-are_ascii (codes "multipliers") refl) refl
-    (back_whole goal m.0) (back_array (items_of (map signed multipliers)) (back_items signed Fits back_signed multipliers (each_fits multipliers m.1)))
+    (back_whole goal m.0) (back_list multipliers m.1)
+back_line (Cover goal passed multipliers) m =
+    back_three (codes "cover") (codes "goal") (codes "multipliers") (whole passed) (whole goal) (list_of signed multipliers)
+    (IsUtf8-are_ascii (codes "cover") refl) (IsUtf8-are_ascii (codes "goal") refl) (IsUtf8-are_ascii (codes "multipliers") refl) refl refl
+    (back_whole passed (let p = m.1 in omega (arith, p))) (back_whole goal m.0) (back_list multipliers m.2)
 back_line (Closing goals) m =
     back_two (codes "closing") (codes "goals") (text (codes "envy-free")) (whole goals) (IsUtf8-are_ascii (codes "closing") refl) (IsUtf8-are_ascii (codes "goals") refl) refl
     (back_text (codes "envy-free") (IsUtf8-are_ascii (codes "envy-free") refl)) (back_whole goals m)

@@ -1,11 +1,11 @@
 -- `demo` decides: its report is accepted, or a counterexample is met.
-use Rattle.std.proofs.Common.{◌≡◌, ◌∙◌, ℕ, ◌≤◌, List, length, Some, refl, sym, ap, subst, ⊎_elim}
+use Rattle.std.proofs.Common.{◌≡◌, ℕ, ◌≤◌, List, length, Some, refl, sym, ap, subst, ⊎_elim}
 use Rattle.slice_parse.specs.Laws.{ReadProgramsAreUnique}
 use Rattle.slice_core.specs.Tree.{Core}
 use Rattle.slice_core.specs.WellFormed.{IsWellFormed}
 use Rattle.slice_counter.specs.CounterLine.{counter_json}
 use Rattle.slice_paths.specs.Goals.{goals}
-use Rattle.slice_check.specs.Certificate.{Accepts, claim_on, file_limit}
+use Rattle.slice_check.specs.Certificate.{Accepts, file_limit}
 use Rattle.slice_check.specs.Faults.{IsAnswer}
 use Rattle.slice_check.specs.declared.answer.CertAnswer.{CertAnswer}
 use Rattle.slice_check.specs.declared.answer.CertAnswer.TheVariants.{Accepted, Rejected}
@@ -20,8 +20,8 @@ use Rattle.slice_top.specs.Demos.{AcceptsReport}
 use Rattle.slice_top.specs.declared.status.Status.{Status}
 use Rattle.slice_top.specs.declared.status.Status.TheVariants as status
 use Rattle.slice_laws.proofs.CertifiedReports.{good_is_accepted}
-use Rattle.slice_laws.proofs.Complete.{all_goals}
-use Rattle.slice_top.proofs.Good.{unsolved_core_fair, verified}
+use Rattle.slice_top.proofs.Fair.{refuted_program_fair}
+use Rattle.slice_top.proofs.Good.{verified}
 use Rattle.slice_laws.proofs.Judged.{not_failed}
 use Rattle.slice_top.proofs.MetRuns.{met, met_run}
 use Rattle.slice_top.proofs.CoreRuns.{core_formed}
@@ -30,12 +30,12 @@ use Rattle.slice_laws.proofs.Verified.{Ends, ends}
 use Rattle.slice_laws.proofs.Verified as ending
 
 -- a certificate is accepted, where nothing keeps the checker from saying so
-counts : (core : Core) (report : List ℕ) → CanBeMade core → length report ≤ file_limit → SumsFit core report → Accepts (claim_on core) report → AcceptsReport core report (length (goals core))
+counts : (core : Core) (report : List ℕ) → CanBeMade core → length report ≤ file_limit → SumsFit core report → Accepts core report → AcceptsReport core report (length (goals core))
 counts core report none short fit is = ⊎_elim (λ a. by a.0 a.1) (λ f. absurd (not_failed core report none short fit f.0 f.1.0 f.1.1)) (files_decided core report)
   where
-    by : (x : CertAnswer) → IsAnswer (claim_on core) report x → AcceptsReport core report (length (goals core))
-    by (Accepted n) h = let all : n ≡ length (goals core) = h.2 ∙ ap length (sym (all_goals core none)) in subst (AcceptsReport core report) all h
-    by (Rejected r) h = absurd (rejected_is_no_certificate (claim_on core) report r h is)
+    by : (x : CertAnswer) → IsAnswer core report x → AcceptsReport core report (length (goals core))
+    by (Accepted n) h = subst (AcceptsReport core report) h.1 h
+    by (Rejected r) h = absurd (rejected_is_no_certificate core report r h is)
 
 pub demo_decides : ReadProgramsAreUnique → DemoDecides
 demo_decides once files n p core report a spelled made none fit heights is short sums answer = by (ends core fit heights none report is)
@@ -51,7 +51,7 @@ demo_decides once files n p core report a spelled made none fit heights is short
         let formed : IsWellFormed core = subst IsWellFormed (sym made.same) (core_formed (rounds_text n) p core spelled made) in
         let whole = good_is_accepted core report formed is good in
         let line = one_line (demo_json core (length (goals core)) (length report.text)) status.Good in
-        certified (unsolved_core_fair (rounds_text n) p core spelled made (verified core report is good)) whole
+        certified (refuted_program_fair (rounds_text n) p core spelled made (verified core report is good)) whole
         (only status.Good line good (goes (length (goals core)) (counts core report.text none short sums whole) refl))
     by (ending.countered e) =
         let r = met_run (rounds_text n) report.text p core spelled made (met core report is e) in

@@ -37,7 +37,7 @@ use Rattle.slice_paths.specs.Events.{events_of}
 use Rattle.slice_report.specs.CoreReport.{core_json}
 use Rattle.slice_report.specs.declared.refusal.Refusal.{Refusal}
 use Rattle.slice_report.specs.declared.refusal.Refusal.TheVariants as refusal
-use Rattle.slice_top.specs.Answers.{Answer, answer_of, one_line, refused, Stage, stops, goes, WithFile, WithProgram, WithCore, OfText, IsPrintAnswer, IsCheckAnswer, IsPathsAnswer, goals_answer, IsVerifyAnswer, after_text, IsRunAnswer, IsReplayAnswer, IsCertifyAnswer, TellsLeastRun, TellsGivenRun, IsOutcome, AfterReport, IsDemoAnswer}
+use Rattle.slice_top.specs.Answers.{Answer, answer_of, one_line, refused, Stage, stops, goes, WithFile, WithProgram, WithCore, OfText, IsPrintAnswer, IsCheckAnswer, IsPathsAnswer, goals_answer, IsVerifyAnswer, IsRunAnswer, IsReplayAnswer, IsCertifyAnswer, TellsLeastRun, TellsGivenRun, IsOutcome, AfterReport, IsDemoAnswer}
 use Rattle.slice_top.specs.Commands.{check, print, paths, verify, run, replay, certify, demo}
 use Rattle.slice_top.specs.Cores.{RefusesCore, IsCoreOf}
 use Rattle.slice_top.specs.Demos.{AcceptsReport, RefusesReport, last_line, report_name}
@@ -48,9 +48,7 @@ use Rattle.slice_top.specs.Runs.{run_refusal, told_status}
 use Rattle.slice_top.specs.Values.{RefusesValues, RefusesReplay, values_refusal}
 use Rattle.slice_top.specs.declared.status.Status.{Status}
 use Rattle.slice_top.specs.declared.status.Status.TheVariants as status
-use Rattle.slice_cert.specs.CertLines.{line_text}
-use Rattle.slice_cert.specs.declared.line.Line.TheVariants.{Header}
-use Rattle.slice_check.specs.Certificate.{Accepts, claim_on}
+use Rattle.slice_check.specs.Certificate.{Accepts}
 use Rattle.slice_check.specs.Faults.{Fails, IsUnread}
 use Rattle.slice_check.specs.Faults.{IsAnswer as CheckAnswer}
 use Rattle.slice_check.specs.declared.answer.CertAnswer.{CertAnswer}
@@ -65,7 +63,7 @@ use Rattle.slice_core.specs.WellFormed.{IsWellFormed}
 use Rattle.slice_report.specs.CertifyReport.{certify_json}
 use Rattle.slice_top.specs.Certificates.{SaysOfFile, ChecksFile, RefusesCertificate, missing, given_up, checker_refusal, checked_status}
 use Rattle.slice_laws.proofs.CertifiedReports.{good_is_accepted}
-use Rattle.slice_top.proofs.SomeDecisions.{some_end}
+use Rattle.slice_top.proofs.SomeDecisions.{some_verified}
 use Rattle.slice_laws.proofs.FileFaults.{replay_found, fault_not_memory, replay_fault_not_memory}
 use Rattle.slice_top.proofs.CoreRuns.{core_formed}
 use Rattle.slice_laws.proofs.ToldRuns.{least_said, given_said, some_agent}
@@ -243,24 +241,21 @@ module _ (files : Files) (name : List ℕ) (core : Core) where
   certificate_found None e = inl (refusal.ReadFault name, missing (ap Some e) refl)
   certificate_found (Some bytes) e =
       ⊎_elim
-      (λ a. inr (a.0, of_file bytes (λ xs. CheckAnswer (claim_on core) xs a.0) e a.1))
-      (λ f. let r = checker_refused name f.0 f.1.0 in inl (r.0, given_up f.0 r.1 (of_file bytes (λ xs. Fails (claim_on core) xs f.0) e f.1.1)))
+      (λ a. inr (a.0, of_file bytes (λ xs. CheckAnswer core xs a.0) e a.1))
+      (λ f. let r = checker_refused name f.0 f.1.0 in inl (r.0, given_up f.0 r.1 (of_file bytes (λ xs. Fails core xs f.0) e f.1.1)))
       (files_decided core bytes)
 
   some_certified : HasAnswer (IsCertifyAnswer (Some files) name core)
   some_certified =
       some_stage (RefusesCertificate (Some files) name core) (ChecksFile (Some files) name core) _ (certificate_found (file_of name files) refl) (λ x h. (one_line (certify_json x) (checked_status x), refl))
 
--- ---- decisions, and reports that are made and checked
+-- ---- reports that are made and checked
 
-some_verified : (core : Core) → HasAnswer (IsVerifyAnswer core)
-some_verified core = let d = some_end core [] (claim_on core).goals refl in (after_text (line_text (Header 1 core.name core.agents)) d.0, (d.0, (d.1, refl)))
-
-module _ (core : Core) (report : List ℕ) (is : Accepts (claim_on core) report) where
+module _ (core : Core) (report : List ℕ) (is : Accepts core report) where
   -- the checker accepts a certificate, or gives it up
-  counts : (x : CertAnswer) → CheckAnswer (claim_on core) report x → (n : ℕ) × AcceptsReport core report n
+  counts : (x : CertAnswer) → CheckAnswer core report x → (n : ℕ) × AcceptsReport core report n
   counts (Accepted n) h = (n, h)
-  counts (Rejected r) h = absurd (rejected_is_no_certificate (claim_on core) report r h is)
+  counts (Rejected r) h = absurd (rejected_is_no_certificate core report r h is)
 
   report_checked : ((r : Refusal) × RefusesReport core report r) ⊎ ((n : ℕ) × AcceptsReport core report n)
   report_checked =
@@ -269,7 +264,7 @@ module _ (core : Core) (report : List ℕ) (is : Accepts (claim_on core) report)
       (λ f. let r = checker_refused report_name f.0 f.1.0 in inl (r.0, (f.0, (r.1, f.1.1))))
       (files_decided core report)
 
-some_after : (core : Core) (report : List ℕ) (s : Status) → (s ≡ status.Good → Accepts (claim_on core) report) → HasAnswer (AfterReport core report s)
+some_after : (core : Core) (report : List ℕ) (s : Status) → (s ≡ status.Good → Accepts core report) → HasAnswer (AfterReport core report s)
 some_after core report status.Good h =
     some_stage (RefusesReport core report) (AcceptsReport core report) _ (report_checked core report (h refl)) (λ n is. (one_line (demo_json core n (length report)) status.Good, refl))
 some_after core report s h = (answer_of (last_line report) s, refl)

@@ -7,7 +7,7 @@ use Rattle.slice_ast.specs.Code.{PlainProgram}
 use Rattle.slice_parse.specs.Laws.{IsProgramOf}
 use Rattle.slice_core.specs.Division.{AreDisjoint, MakeUpCake, IsDivision}
 use Rattle.slice_core.specs.Measures.{worth_of, length_of}
-use Rattle.slice_core.specs.Run.{Piece, Ending, run_core}
+use Rattle.slice_core.specs.Run.{Piece, Ending}
 use Rattle.slice_core.specs.Run as core
 use Rattle.slice_core.specs.Tree.{Core}
 use Rattle.slice_core.specs.WellFormed.{IsWellFormed}
@@ -25,7 +25,6 @@ use Rattle.slice_run.proofs.GivenRun.{given_walks}
 use Rattle.slice_run.proofs.LeastRun.{least_walks}
 use Rattle.slice_report.proofs.TellsEnvy.{tells_envy}
 use Rattle.slice_top.specs.Cores.{IsCoreOf}
-use Rattle.slice_top.specs.Headline.{run_on}
 use Rattle.slice_top.proofs.CoreRuns.{core_formed, kept}
 use Rattle.slice_laws.specs.Laws.{TellsEnd, IsToldOf, IsBadEnd, IsRefusedSo, RunTellsTheLeastRun, RunStopsAtNumbers, ReplayTellsTheRun, ReplayRefusesTheRun}
 

@@ -1,5 +1,6 @@
 -- Files and a command have one answer.
-use Rattle.std.proofs.Common.{◌≡◌, ◌≢◌, ◌∙◌, ℕ, ◌<◌, inl, inr, List, [], ◌∷◌, length, Option, Some, None, sym, refl, ap, subst, arith}
+use Rattle.std.proofs.Common.{◌≡◌, ◌≢◌, ◌∙◌, ℕ, ◌<◌, ◌≤◌, inl, inr, List, [], ◌∷◌, length, Option, Some, None, sym, refl, ap, subst, arith}
+use Rattle.slice_num.specs.Pieces.{joined}
 use Rattle.slice_num.specs.Valuation.{Valuation}
 use Rattle.slice_io.specs.Files.{Files, file_of, told_file, IsFile}
 use Rattle.slice_ast.specs.Code.{PlainProgram}
@@ -18,14 +19,15 @@ use Rattle.slice_run.specs.declared.outcome.RunFault.{RunFault}
 use Rattle.slice_run.specs.Walk.{Told, Walked, Good, Refused, outcome, Least, Given}
 use Rattle.slice_report.specs.declared.refusal.Refusal.{Refusal}
 use Rattle.slice_report.specs.declared.refusal.Refusal.TheVariants.{ReadFault, TooLong, HeightLimit}
-use Rattle.slice_check.specs.Certificate.{claim_on}
+use Rattle.slice_paths.specs.Events.{Event, NextGoal, events_of, goal_limit, next_goal}
+use Rattle.slice_paths.specs.Events as comes
 use Rattle.slice_check.specs.Faults.{IsUnread}
 use Rattle.slice_check.specs.declared.answer.CertAnswer.{CertAnswer}
 use Rattle.slice_check.specs.declared.answer.CertAnswer.TheVariants.{Accepted}
 use Rattle.slice_check.specs.declared.answer.CertFault.{CertFault}
 use Rattle.slice_check.proofs.OneStop.{one_fault, one_answer, answer_or_fault}
 use Rattle.slice_top.specs.Certificates.{SaysOfFile, ChecksFile, RefusesCertificate, missing, given_up, checker_refusal}
-use Rattle.slice_top.specs.Answers.{Answer, refused, Stage, stops, goes, WithFile, WithProgram, WithCore, IsPrintAnswer, IsCheckAnswer, IsPathsAnswer, IsRunAnswer, IsReplayAnswer, IsCertifyAnswer, Counters, low, high, Follows, Closes, DecidesAll, IsVerifyAnswer, after_text, TellsLeastRun, TellsGivenRun, IsOutcome, OfText, CountsReport, AfterReport, IsDemoAnswer}
+use Rattle.slice_top.specs.Answers.{Answer, refused, Stage, stops, goes, WithFile, WithProgram, WithCore, IsPrintAnswer, IsCheckAnswer, IsPathsAnswer, IsRunAnswer, IsReplayAnswer, IsCertifyAnswer, Counters, low, high, Closes, ClosesAt, IsVerifyAnswer, after_text, TellsLeastRun, TellsGivenRun, IsOutcome, OfText, CountsReport, AfterReport, IsDemoAnswer}
 use Rattle.slice_top.specs.Commands.{check, print, paths, verify, run, replay, certify, demo}
 use Rattle.slice_top.specs.Cores.{RefusesCore, IsCoreOf, rule_refusal, limit_refusal}
 use Rattle.slice_top.specs.Demos.{AcceptsReport, RefusesReport, report_name}
@@ -38,17 +40,17 @@ use Rattle.std.specs.Prelude.{ℤ}
 use Rattle.slice_atoms.specs.Addresses.{atom_count}
 use Rattle.slice_paths.specs.Goals.{Goal}
 use Rattle.slice_paths.specs.Ways.{way_of}
-use Rattle.slice_paths.specs.declared.goal.GoalFault.{GoalFault}
-use Rattle.slice_simplex.specs.ProverAnswer.{ProverAnswer, RefutedBy, SolvedBy, AtLimit, Unfit}
+use Rattle.slice_simplex.specs.ProverAnswer.{ProverAnswer, IsProverAnswer, RefutedBy, SolvedBy, AtLimit, Unfit}
 use Rattle.slice_simplex.proofs.Once.{answer_is_one}
-use Rattle.slice_cert.specs.CertLines.{line_text}
-use Rattle.slice_cert.specs.declared.line.Line.TheVariants.{Header, Refutation}
-use Rattle.slice_verify.specs.Report.{pivot_limit}
+use Rattle.slice_cert.specs.declared.line.Line.{Line}
+use Rattle.slice_cert.specs.ShortForms.{short_line}
+use Rattle.slice_verify.specs.Report.{AreTaken, IsTaken, LeadsTo, pivot_limit, texts_after}
 use Rattle.slice_gen.specs.Rounds.{rounds_text}
 use Rattle.slice_top.specs.declared.status.Status.{Status}
 use Rattle.slice_top.specs.declared.status.Status.TheVariants as status
 use Rattle.slice_laws.proofs.Heights.{not_both_heights, one_height}
 use Rattle.slice_top.proofs.CheckedFiles.{not_refused}
+use Rattle.slice_top.proofs.Taking.{leads_one}
 use Rattle.slice_laws.proofs.ToldRuns.{some_agent}
 use Rattle.slice_top.specs.Values.{RefusesValues, RefusesReplay, values_refusal}
 
@@ -198,22 +200,18 @@ module _ (files : Files) (name : List ℕ) (core : Core) where
   one_certificate_refusal r s (given_up f e h) (missing d k) = absurd (h.there d)
   one_certificate_refusal r s (given_up f e h) (given_up g d k) =
       let b = bytes_of h in
-      one_refusal (checker_refusal name) f g r s (one_fault (claim_on core) b.0 f g (own_fault f r e) (own_fault g s d) (h.says b.0 b.1) (k.says b.0 b.1)) e d
+      one_refusal (checker_refusal name) f g r s (one_fault core b.0 f g (own_fault f r e) (own_fault g s d) (h.says b.0 b.1) (k.says b.0 b.1)) e d
 
   certificate_apart : (r : Refusal) (x : CertAnswer) → RefusesCertificate (Some files) name core r → ChecksFile (Some files) name core x → ⊥
   certificate_apart r x (missing e h) k = k.there e
-  certificate_apart r x (given_up f e h) k = let b = bytes_of h in own_fault f r e (answer_or_fault (claim_on core) b.0 x f (k.says b.0 b.1) (h.says b.0 b.1))
+  certificate_apart r x (given_up f e h) k = let b = bytes_of h in own_fault f r e (answer_or_fault core b.0 x f (k.says b.0 b.1) (h.says b.0 b.1))
 
   certify_one : One (IsCertifyAnswer (Some files) name core)
   certify_one =
       stage_one (RefusesCertificate (Some files) name core) (ChecksFile (Some files) name core) _ one_certificate_refusal certificate_apart
-      (λ x y h k. let b = bytes_of h in one_answer (claim_on core) b.0 x y (h.says b.0 b.1) (k.says b.0 b.1)) (λ x h a b e f. told_is e f)
+      (λ x y h k. let b = bytes_of h in one_answer core b.0 x y (h.says b.0 b.1) (k.says b.0 b.1)) (λ x h a b e f. told_is e f)
 
 -- ---- decisions
-
-closes_one : (n : ℕ) (f : Option GoalFault) → One (Closes n f)
-closes_one n None a b h k = told_is h k
-closes_one n (Some f) a b h k = h.1.1 ∙ ap refused (some_same (sym h.1.0 ∙ k.1.0)) ∙ sym k.1.1
 
 counters_one : (core : Core) (g : Goal) (xs : List ℤ) → One (Counters core g xs)
 counters_one core g xs a b (low l e) (low k f) = told_is e f
@@ -223,21 +221,88 @@ counters_one core g xs a b (high agent atom l e) (high other part k f) =
     let same = one_height core.agents (atom_count (way_of core g.trace).cake) xs agent atom other part l k in
     e ∙ (λ i. refused (HeightLimit g.number (same.0 i) (same.1 i))) ∙ sym f
 
-follows_one : (core : Core) (g : Goal) (Next : Answer → Type 0) (p : ProverAnswer) → One Next → One (Follows core g Next p)
-follows_one core g Next (RefutedBy m) next a b (x, (h, e)) (y, (k, f)) = e ∙ ap (after_text (line_text (Refutation g.number m))) (next x y h k) ∙ sym f
-follows_one core g Next (SolvedBy xs) next a b h k = counters_one core g xs a b h k
-follows_one core g Next AtLimit next a b e f = told_is e f
-follows_one core g Next (Unfit pivots row col) next a b e f = told_is e f
+closes_at_one : (core : Core) (n : ℕ) (g : Goal) (later : List Event) (p : ProverAnswer) → One (ClosesAt core n g later p)
+closes_at_one core n g later (RefutedBy m) a b h k = told_is h.4 k.4
+closes_at_one core n g later (SolvedBy xs) a b h k = counters_one core g xs a b h k
+closes_at_one core n g later AtLimit a b h k = told_is h k
+closes_at_one core n g later (Unfit pivots row col) a b h k = told_is h k
 
-decides_one : (core : Core) (n : ℕ) (f : Option GoalFault) (gs : List Goal) → One (DecidesAll core n f gs)
-decides_one core n f [] a b h k = closes_one n f a b h k
-decides_one core n f (g ∷ gs) a b (p, (is, h)) (q, (same, k)) =
-    let Next = DecidesAll core n f gs in
-    follows_one core g Next p (decides_one core n f gs) a b h (subst (λ (r : ProverAnswer). Follows core g Next r b) (answer_is_one g.rows pivot_limit q p same is) k)
+closes_one : (core : Core) (n : ℕ) (x : NextGoal) → One (Closes core n x)
+closes_one core n comes.NoMore a b h k = told_is h k
+closes_one core n comes.Overflows a b h k = told_is h k
+closes_one core n comes.OverLimit a b h k = told_is h k
+closes_one core n (comes.Gives g later) a b h k =
+    closes_at_one core n g later h.0 a b h.2 (subst (λ (p : ProverAnswer). ClosesAt core n g later p b) (answer_is_one g.rows pivot_limit k.0 h.0 k.1 h.1) k.2)
+
+-- one goal comes next
+same_goal : (x : NextGoal) (g h : Goal) (es fs : List Event) → x ≡ comes.Gives g es → x ≡ comes.Gives h fs → (g ≡ h) × (es ≡ fs)
+same_goal x g h es fs e f = let same : comes.Gives g es ≡ comes.Gives h fs = sym e ∙ f in (cc, cc)
+
+same_refuted : (m k : List ℤ) → RefutedBy m ≡ RefutedBy k → m ≡ k
+same_refuted m k e = cc
+
+-- of a goal that comes next there is one line, and it leads to one place
+module _ (core : Core) (n : ℕ) (ahead : List Event) (l : Line) (t : IsTaken core n ahead l) where
+  same_line : (g : Goal) (later : List Event) (m : List ℤ) → next_goal ahead n ≡ comes.Gives g later → IsProverAnswer g.rows pivot_limit (RefutedBy m) → l ≡ short_line core.agents n m
+  same_line g later m e is =
+      let goal = (same_goal (next_goal ahead n) t.goal g t.later later t.comes e).0 in
+      let ends = subst (λ (x : Goal). IsProverAnswer x.rows pivot_limit (RefutedBy t.multipliers)) goal t.refuted.ends in
+      t.line ∙ ap (short_line core.agents n) (same_refuted t.multipliers m (answer_is_one g.rows pivot_limit (RefutedBy t.multipliers) (RefutedBy m) ends is))
+
+  same_place : (g : Goal) (later : List Event) (j k : ℕ) (es fs : List Event) → next_goal ahead n ≡ comes.Gives g later → LeadsTo core n t.goal t.later l j es → LeadsTo core n g later l k fs → (j ≡ k) × (es ≡ fs)
+  same_place g later j k es fs e x y =
+      let same = same_goal (next_goal ahead n) t.goal g t.later later t.comes e in
+      leads_one core n g later l j k es fs (subst (λ (ds : List Event). LeadsTo core n g ds l j es) same.1 (subst (λ (h : Goal). LeadsTo core n h t.later l j es) same.0 x)) y
+
+  -- a report that goes on behind it isn't closed before it
+  not_closed_at : (k : ℕ) (mid : List Event) → LeadsTo core n t.goal t.later l k mid → k ≤ goal_limit → (a : Answer) (p : ProverAnswer) → IsProverAnswer t.goal.rows pivot_limit p → ClosesAt core n t.goal t.later p a → ⊥
+  not_closed_at k mid leads few a (RefutedBy m) is h =
+      let line : l ≡ short_line core.agents n m = same_line t.goal t.later m t.comes is in
+      let other = subst (λ (z : Line). LeadsTo core n t.goal t.later z h.0 h.1) (sym line) h.2 in
+      let place = (leads_one core n t.goal t.later l k h.0 mid h.1 leads other).0 in
+      let past = h.3 in
+      omega (arith, few, place, past)
+  not_closed_at k mid leads few a (SolvedBy xs) is h =
+      let bad : RefutedBy t.multipliers ≡ SolvedBy xs = answer_is_one t.goal.rows pivot_limit (RefutedBy t.multipliers) (SolvedBy xs) t.refuted.ends is in cc
+  not_closed_at k mid leads few a AtLimit is h =
+      let bad : RefutedBy t.multipliers ≡ AtLimit = answer_is_one t.goal.rows pivot_limit (RefutedBy t.multipliers) AtLimit t.refuted.ends is in cc
+  not_closed_at k mid leads few a (Unfit pivots row col) is h =
+      let bad : RefutedBy t.multipliers ≡ Unfit pivots row col = answer_is_one t.goal.rows pivot_limit (RefutedBy t.multipliers) (Unfit pivots row col) t.refuted.ends is in cc
+
+  not_closed : (k : ℕ) (mid : List Event) → LeadsTo core n t.goal t.later l k mid → k ≤ goal_limit → (a : Answer) → Closes core n (next_goal ahead n) a → ⊥
+  not_closed k mid leads few a c =
+      let at = subst (λ (x : NextGoal). Closes core n x a) t.comes c in
+      not_closed_at k mid leads few a at.0 at.1 at.2
+
+-- lines from n on, and what closes the report behind them
+record Goes (core : Core) (n : ℕ) (ahead : List Event) (ls : List Line) (a : Answer) : Type 0 where
+  goals : ℕ
+  later : List Event
+  taken : AreTaken core n ahead ls goals later
+  closes : Closes core goals (next_goal later goals) a
+
+closed_here : (core : Core) (n : ℕ) (ahead : List Event) (a : Answer) → Goes core n ahead [] a → Closes core n (next_goal ahead n) a
+closed_here core n ahead a x =
+    subst (λ (es : List Event). Closes core n (next_goal es n) a) x.taken.1 (subst (λ (k : ℕ). Closes core k (next_goal x.later k) a) x.taken.0 x.closes)
+
+goes_one : (core : Core) (n : ℕ) (ahead : List Event) (ls ks : List Line) (a b : Answer) → Goes core n ahead ls a → Goes core n ahead ks b → (ls ≡ ks) × (a ≡ b)
+goes_one core n ahead [] [] a b x y = (refl, closes_one core n (next_goal ahead n) a b (closed_here core n ahead a x) (closed_here core n ahead b y))
+goes_one core n ahead [] (k ∷ ks) a b x y = let t = y.taken in absurd (not_closed core n ahead k t.0 t.1 t.2 t.3 t.4 a (closed_here core n ahead a x))
+goes_one core n ahead (l ∷ ls) [] a b x y = let t = x.taken in absurd (not_closed core n ahead l t.0 t.1 t.2 t.3 t.4 b (closed_here core n ahead b y))
+goes_one core n ahead (l ∷ ls) (k ∷ ks) a b x y =
+    let t = x.taken in
+    let u = y.taken in
+    let line : l ≡ k = same_line core n ahead l t.0 u.0.goal u.0.later u.0.multipliers u.0.comes u.0.refuted.ends ∙ sym u.0.line in
+    let place = same_place core n ahead l t.0 u.0.goal u.0.later t.1 u.1 t.2 u.2 u.0.comes t.3 (subst (λ (z : Line). LeadsTo core n u.0.goal u.0.later z u.1 u.2) (sym line) u.3) in
+    let first = subst (λ (es : List Event). AreTaken core u.1 es ls x.goals x.later) place.1 (subst (λ (j : ℕ). AreTaken core j t.2 ls x.goals x.later) place.0 t.5) in
+    let rest = goes_one core u.1 u.2 ls ks a b
+    (record { goals = x.goals; later = x.later; taken = first; closes = x.closes }) (record { goals = y.goals; later = y.later; taken = u.5; closes = y.closes }) in
+    ((λ i. line i ∷ rest.0 i), rest.1)
 
 verify_one : (core : Core) → One (IsVerifyAnswer core)
-verify_one core a b (x, (h, e)) (y, (k, f)) =
-    e ∙ ap (after_text (line_text (Header 1 core.name core.agents))) (decides_one core (length (claim_on core).goals) (claim_on core).fault (claim_on core).goals x y h k) ∙ sym f
+verify_one core a b (ls, n, ahead, t, x, c, e) (ks, m, later, u, y, d, f) =
+    let same = goes_one core 0 (events_of core) ls ks x y (record { goals = n; later = ahead; taken = t; closes = c }) (record { goals = m; later = later; taken = u; closes = d }) in
+    e ∙ (λ i. after_text (joined (texts_after core (same.0 i))) (same.1 i)) ∙ sym f
 
 -- ---- reports
 
@@ -248,8 +313,8 @@ counts_one : (core : Core) (report : List ℕ) → One (CountsReport core report
 counts_one core report =
     let own = λ (f : CertFault) (r : Refusal) (e : checker_refusal report_name f ≡ Some r) (u : IsUnread f). not_refused report_name f r u e in
     stage_one (RefusesReport core report) (AcceptsReport core report) _
-    (λ r s h k. one_refusal (checker_refusal report_name) h.0 k.0 r s (one_fault (claim_on core) report h.0 k.0 (own h.0 r h.1.0) (own k.0 s k.1.0) h.1.1 k.1.1) h.1.0 k.1.0)
-    (λ r n h k. own h.0 r h.1.0 (answer_or_fault (claim_on core) report (Accepted n) h.0 k h.1.1)) (λ m n h k. one_accepted (one_answer (claim_on core) report (Accepted m) (Accepted n) h k)) (λ n h a b e f. told_is e f)
+    (λ r s h k. one_refusal (checker_refusal report_name) h.0 k.0 r s (one_fault core report h.0 k.0 (own h.0 r h.1.0) (own k.0 s k.1.0) h.1.1 k.1.1) h.1.0 k.1.0)
+    (λ r n h k. own h.0 r h.1.0 (answer_or_fault core report (Accepted n) h.0 k h.1.1)) (λ m n h k. one_accepted (one_answer core report (Accepted m) (Accepted n) h k)) (λ n h a b e f. told_is e f)
 
 after_one : (core : Core) (report : List ℕ) (s : Status) → One (AfterReport core report s)
 after_one core report status.Good a b h k = counts_one core report a b h k

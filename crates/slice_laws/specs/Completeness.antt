@@ -10,22 +10,25 @@ use Rattle.slice_ast.specs.Layout.{canonical_text}
 use Rattle.slice_parse.specs.Laws.{IsProgramOf}
 use Rattle.slice_core.specs.Tree.{Core}
 use Rattle.slice_expand.specs.ProgramRun.{ProgramEnd, Done, Stuck, Few, Bad, Many}
-use Rattle.slice_linear.specs.Rows.{width}
+use Rattle.slice_linear.specs.Rows.{LinearRow, width}
+use Rattle.slice_paths.specs.Fronts.{cover_rows}
 use Rattle.slice_paths.specs.Goals.{Goal, goals}
 use Rattle.slice_paths.specs.declared.goal.GoalKind.{GoalKind}
 use Rattle.slice_step.specs.ValuationFile.{IsValuationFile, IsReplayFile}
 use Rattle.slice_run.specs.Walk.{Told, InRange, outcome, Least, Given}
 use Rattle.slice_simplex.specs.ProverAnswer.{RunFits, IsEndSolution}
 use Rattle.slice_cert.specs.CertLines.{line_text}
-use Rattle.slice_cert.specs.declared.line.Line.TheVariants.{Refutation, Closing}
-use Rattle.slice_check.specs.Certificate.{Accepts, SaysLine, claim_on, file_limit}
+use Rattle.slice_cert.specs.declared.line.Line.{Line}
+use Rattle.slice_cert.specs.declared.line.Line.TheVariants.{Refutation, Cover, Closing}
+use Rattle.slice_paths.specs.Coming.{coming_on}
+use Rattle.slice_check.specs.Certificate.{Accepts, SaysLine, file_limit}
 use Rattle.slice_check.specs.Faults.{Rejects}
 use Rattle.slice_check.specs.Verdicts.{SumFits}
 use Rattle.slice_check.specs.declared.answer.CertAnswer.TheVariants.{Accepted, Rejected}
 use Rattle.slice_check.specs.declared.answer.Rejection.{Rejection}
 use Rattle.slice_counter.specs.Counter.{IsLow}
 use Rattle.slice_counter.specs.CounterLine.{counter_json}
-use Rattle.slice_verify.specs.Report.{pivot_limit}
+use Rattle.slice_verify.specs.Report.{IsReached, pivot_limit}
 use Rattle.slice_gen.specs.Rounds.{rounds_text}
 use Rattle.slice_report.specs.CertifyReport.{certify_json}
 use Rattle.slice_report.specs.CoreReport.{core_json}
@@ -66,7 +69,7 @@ CheckGivesTheCounts =
 
 -- all goals of the core can be made: there are at most so many as may be, and the numbers of their forms and rows fit
 abbrev pub CanBeMade : Core → Type 0
-CanBeMade core = (claim_on core).fault ≡ None
+CanBeMade core = (coming_on core).fault ≡ None
 
 -- a line for each goal
 abbrev pub goal_lines : List Goal → List ℕ
@@ -104,15 +107,18 @@ ReplayTellsARunInRange =
 
 -- ---- `certify F C`
 
--- on each line that has a goal's number, the sums of its multipliers over the goal's rows fit
+-- on each line that has a goal's number, the sums of its multipliers fit: over the goal's rows, or, on a line that covers
+-- goals, over those behind its first passed choices
 abbrev pub SumsFit : Core → List ℕ → Type 0
 SumsFit core file =
-    (i : ℕ) (g : Goal) (m : List ℤ) → Contains (goals core) g → SaysLine file i (Refutation g.number m) → (unknown : ℕ) → unknown < width g.rows → SumFits g.rows m unknown
+    (i : ℕ) (g : Goal) (m : List ℤ) → Contains (goals core) g
+    → (SaysLine file i (Refutation g.number m) → (unknown : ℕ) → unknown < width g.rows → SumFits g.rows m unknown)
+    × ((passed : ℕ) (rows : List LinearRow) → SaysLine file i (Cover g.number passed m) → cover_rows core passed g.trace ≡ Some rows → (unknown : ℕ) → unknown < width rows → SumFits rows m unknown)
 
 -- accepted, where the file is a certificate, of all goals; else rejected, for the first thing that is wrong with it
 pub data Judges (core : Core) (file : List ℕ) (a : Answer) : Type 0 where
-  accepted : Accepts (claim_on core) file → a ≡ one_line (certify_json (Accepted (length (goals core)))) status.Good → Judges core file a
-  rejected : (Accepts (claim_on core) file → ⊥) → (r : Rejection) → Rejects (claim_on core) file r → a ≡ one_line (certify_json (Rejected r)) status.Negative → Judges core file a
+  accepted : Accepts core file → a ≡ one_line (certify_json (Accepted (length (goals core)))) status.Good → Judges core file a
+  rejected : (Accepts core file → ⊥) → (r : Rejection) → Rejects core file r → a ≡ one_line (certify_json (Rejected r)) status.Negative → Judges core file a
 
 abbrev pub CertifyJudges : Type 0
 CertifyJudges =
@@ -121,14 +127,14 @@ CertifyJudges =
 
 -- ---- `verify F`
 
--- for each goal the pivot run on its rows ends within the limit, its numbers fit, and so do those of its end solution, where
--- it has one
+-- for each goal that comes after lines of `verify`, and so for none that a line takes beside its own, the pivot run on its rows
+-- ends within the limit, its numbers fit, and so do those of its end solution, where it has one
 abbrev pub RunsFit : Core → Type 0
-RunsFit core = (g : Goal) → Contains (goals core) g → RunFits g.rows pivot_limit
+RunsFit core = (ls : List Line) (g : Goal) → IsReached core ls g → RunFits g.rows pivot_limit
 
 -- and no end solution has a height that is too great
 abbrev pub HeightsFit : Core → Type 0
-HeightsFit core = (g : Goal) (xs : List ℤ) → Contains (goals core) g → IsEndSolution g.rows xs → IsLow xs
+HeightsFit core = (ls : List Line) (g : Goal) (xs : List ℤ) → IsReached core ls g → IsEndSolution g.rows xs → IsLow xs
 
 -- the program is shown to be fair, and the last line says so for all goals; or the last line is that of a counterexample, with
 -- which a run of it ends as the line tells
@@ -154,7 +160,7 @@ VerifyIsExact =
 -- the program is shown to be fair, the report of `verify` on it is a certificate, and the line says how many bytes it has and
 -- that it is accepted for all goals; or the line is that of a counterexample, with which a run of the program ends as it tells
 pub data Shows (p : PlainProgram) (core : Core) (report : List ℕ) (a : Answer) : Type 0 where
-  certified : EveryRunIsFair p → Accepts (claim_on core) report → a ≡ one_line (demo_json core (length (goals core)) (length report)) status.Good → Shows p core report a
+  certified : EveryRunIsFair p → Accepts core report → a ≡ one_line (demo_json core (length (goals core)) (length report)) status.Good → Shows p core report a
   countered :
       (goal : ℕ) (kind : GoalKind) (query : ℕ) (vs : List Valuation) (ys : List CutAnswer) → IsValuationList p.agents.value vs → EndsAsTold vs kind query (run_on vs p ys)
       → a ≡ one_line (counter_json goal kind query vs ys) status.Negative → Shows p core report a

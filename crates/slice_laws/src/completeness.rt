@@ -48,8 +48,8 @@ pub fn certify_judges()
     parsings_are_unique();
 }
 
-/// `verify F` ends with envy-free or with a counterexample, where all goals of the core can be made, the pivot run of each ends
-/// within 100,000 pivots and fits, and no height is above 10^18.
+/// `verify F` ends with envy-free or with a counterexample, where all goals of the core can be made, the pivot run of each that
+/// no line takes beside its own goal ends within 100,000 pivots and fits, and no height of these is above 10^18.
 pub fn verify_decides()
     ensures { VerifyDecides }
 {

@@ -1,6 +1,7 @@
 //! Laws of the definitions that `top`'s contract rests on. No function does anything: its clauses are the
 //! laws.
 ghost use Rattle.slice_laws.specs.Laws.{AnswersAreUnique, AnswersExist, RefutedGoalsMeanFairRuns, ReplayRefusesTheRun, ReplayTellsTheRun, RunStopsAtNumbers, RunTellsTheLeastRun, UnsolvedGoalsMeanFairRuns};
+ghost use Rattle.slice_laws.specs.Written.{LinesRefuteGoals, LinesTakeAll, ReachedGoalsFollow};
 
 use slice_parse::parsings_are_unique;
 
@@ -26,6 +27,15 @@ pub fn replay_tells_the_run()
 pub fn refuted_goals_mean_fair_runs()
     ensures unsolved { UnsolvedGoalsMeanFairRuns }
     ensures refuted { RefutedGoalsMeanFairRuns }
+{}
+
+/// The lines that `verify` writes, in whatever it ends, take the goals before in their order, and each of these is refuted: its
+/// rows have no solution, or those behind some of its choices have none. The goal that closes the work is the core's next
+/// one; where none comes, the lines took all.
+pub fn written_lines_refute_goals()
+    ensures refuted { LinesRefuteGoals }
+    ensures next { ReachedGoalsFollow }
+    ensures all { LinesTakeAll }
 {}
 
 /// Files and a command have one answer: `top`'s report leaves no choice but that of the devices and of

@@ -15,14 +15,14 @@ use Rattle.slice_atoms.specs.Numbers.{Numbering, IsNumbering, name_of, cake_of, 
 use Rattle.slice_atoms.proofs.Cuts.{numbering_cut, cake_put, name_stays, name_left, name_right, number_given, piece_among, all_emptied, sum_part, one_same}
 use Rattle.slice_paths.specs.Places.{Condition, Way, first_conditions, cut_way, test_way}
 use Rattle.slice_paths.specs.Events.{events, cut_fits}
-use Rattle.slice_paths.specs.Same.{SameAt}
+use Rattle.slice_paths.specs.Same.{SameAt, SameForms, SameConditions}
 use Rattle.slice_paths.specs.Spots.{Known, Tally, form_of, condition_of, regs_of, way_of, tally_of, without_gifts, with_gifts, IsSplit}
 use Rattle.slice_paths.specs.Sums.{AllWithin}
 use Rattle.slice_paths.specs.Steps.{IsNotGiven, AreGifts, IsKnown, IsOver, PassedTo, IsPassed, IsNoDifference, AllCanSplit, AllSplit, ConditionsSplit, HalvedTo, CutTo, IsNoCut, parts_at}
 use Rattle.slice_paths.specs.declared.spot.Condition as held
 use Rattle.slice_paths.specs.declared.spot.Gift.{Gift}
 use Rattle.slice_paths.proofs.Counts.{piece_map, emptied_map}
-use Rattle.slice_paths.proofs.Depends.{SameForms, SameConditions, depends, same_sub, sub_fits_same, conditions_put}
+use Rattle.slice_paths.proofs.Depends.{depends, same_sub, sub_fits_same, conditions_put}
 use Rattle.slice_paths.proofs.Pieces.{pieces_mean_pieces}
 use Rattle.slice_paths.proofs.Splits.{splits_mean_the_same}
 use Rattle.slice_paths.proofs.StepLaws.{not_given, other_piece, same_conditions}
@@ -267,6 +267,9 @@ cut_to s t a p part am am' own rs cs k one q m sr sc sp so d =
     record {
       piece = not_given ps s.gifts p m ∙ piece_map (name_of v.olds) v.pieces p ∙ by_part (name_of v.olds) (piece_at v.pieces p) part q;
       fit = fits_alike s a p part am am' own k one q sp so ∙ d.fit;
+      same_regs = subst (SameForms c.cake (regs_of s)) (sym d.regs) (subst (λ (x : Cake). SameForms x (regs_of s) (map (form_of w) rs)) cake regs);
+      same_conditions = subst (SameConditions c.cake c.conditions) (sym (ap (λ (x : Way). x.conditions) d.way)) (subst (λ (x : Cake). SameConditions x c.conditions conds) cake same_conds);
+      way = ap (λ (x : Way). record x { queries = s.queries + 1 }) d.way ∙ ways ∙ ap (λ (xs : List Condition). record c { conditions = xs; cuts = [] }) (sym (ap (λ (x : Way). x.conditions) d.way));
       comes = λ n next.
           (ap (λ (fs : List Form). events n next fs (record (way_of t) { queries = s.queries + 1 })) d.regs
           ∙ ap (λ (x : Way). events n next (map (form_of w) rs) (record x { queries = s.queries + 1 })) d.way

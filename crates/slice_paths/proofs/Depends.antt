@@ -20,20 +20,7 @@ use Rattle.slice_paths.specs.Goals.{row_of, pairs}
 use Rattle.slice_paths.specs.declared.goal.GoalKind.{GoalKind}
 use Rattle.slice_paths.specs.declared.goal.GoalKind.TheVariants as goal_kind
 use Rattle.slice_paths.specs.Events.{Event, Meets, found, envy_goal, rows_fit, where_fit, scaled_fits, term_fits, added_fits, terms_fit, sum_fits, cut_fits, events}
-use Rattle.slice_paths.specs.Same.{LiesIn, SameAt}
-
--- ---- what is the same in the atoms
-abbrev pub SameForms : Cake → List Form → List Form → Type 0
-SameForms k [] [] = ⊤
-SameForms k (f ∷ fs) (g ∷ gs) = SameAt k f g × SameForms k fs gs
-SameForms k [] (g ∷ gs) = ⊥
-SameForms k (f ∷ fs) [] = ⊥
-
-abbrev pub SameConditions : Cake → List Condition → List Condition → Type 0
-SameConditions k [] [] = ⊤
-SameConditions k (c ∷ cs) (d ∷ ds) = (c.kind ≡ d.kind) × (SameAt k c.form d.form × SameConditions k cs ds)
-SameConditions k [] (d ∷ ds) = ⊥
-SameConditions k (c ∷ cs) [] = ⊥
+use Rattle.slice_paths.specs.Same.{LiesIn, SameAt, SameForms, SameConditions}
 
 -- ---- coefficients
 map_letter : (d : Letter) (F : Address → Rational) (xs : List Address) → map F (map (λ A. d ∷ A) xs) ≡ map (λ A. F (d ∷ A)) xs
@@ -80,16 +67,16 @@ lies_before (R ∷ A) (Halves l r) [] h = h
 lies_before (R ∷ A) (Halves l r) (L ∷ B) h = h
 lies_before (R ∷ A) (Halves l r) (R ∷ B) h = lies_before A r B h
 
-same_halved : (A : Address) (k : Cake) (f g : Form) → SameAt k f g → SameAt (halved A k) f g
+pub same_halved : (A : Address) (k : Cake) (f g : Form) → SameAt k f g → SameAt (halved A k) f g
 same_halved A k f g p = record { whole = p.whole; parts = λ a B h. p.parts a B (lies_before A k B h) }
 
-forms_halved : (A : Address) (k : Cake) (fs gs : List Form) → SameForms k fs gs → SameForms (halved A k) fs gs
+pub forms_halved : (A : Address) (k : Cake) (fs gs : List Form) → SameForms k fs gs → SameForms (halved A k) fs gs
 forms_halved A k [] [] h = tt
 forms_halved A k (f ∷ fs) (g ∷ gs) h = (same_halved A k f g h.0, forms_halved A k fs gs h.1)
 forms_halved A k [] (g ∷ gs) h = absurd h
 forms_halved A k (f ∷ fs) [] h = absurd h
 
-conditions_halved : (A : Address) (k : Cake) (cs ds : List Condition) → SameConditions k cs ds → SameConditions (halved A k) cs ds
+pub conditions_halved : (A : Address) (k : Cake) (cs ds : List Condition) → SameConditions k cs ds → SameConditions (halved A k) cs ds
 conditions_halved A k [] [] h = tt
 conditions_halved A k (c ∷ cs) (d ∷ ds) h = (h.0, (same_halved A k c.form d.form h.1.0, conditions_halved A k cs ds h.1.1))
 conditions_halved A k [] (d ∷ ds) h = absurd h
@@ -135,7 +122,7 @@ terms_same : (k : Cake) (rs ss : List Form) (f g : Form) (ts : List LinTerm) →
 terms_same k rs ss f g [] h p = p
 terms_same k rs ss f g (t ∷ ts) h p = terms_same k rs ss (added_form t.minus f (term_form rs t)) (added_form t.minus g (term_form ss t)) ts h (added_same k t.minus f g (term_form rs t) (term_form ss t) p (term_same k rs ss t h))
 
-sum_same : (k : Cake) (rs ss : List Form) (ts : List LinTerm) → SameForms k rs ss → SameAt k (sum_form rs ts) (sum_form ss ts)
+pub sum_same : (k : Cake) (rs ss : List Form) (ts : List LinTerm) → SameForms k rs ss → SameAt k (sum_form rs ts) (sum_form ss ts)
 sum_same k rs ss [] h = same_self k (fixed_form (whole (pos 0)))
 sum_same k rs ss (t ∷ ts) h = terms_same k rs ss (term_form rs t) (term_form ss t) ts h (term_same k rs ss t h)
 
@@ -172,7 +159,7 @@ sum_fits_same n k rs ss (t ∷ ts) h = λ i. term_fits_same n k rs ss t h i && t
 row_same : (n : ℕ) (k : Cake) (c d : Condition) → c.kind ≡ d.kind → SameAt k c.form d.form → row_of n k c ≡ row_of n k d
 row_same n k c d e h = λ i. record { kind = e i; coefs = lowest (coefs_same n k c.form d.form h i) }
 
-rows_same : (n : ℕ) (k : Cake) (cs ds : List Condition) → SameConditions k cs ds → map (row_of n k) cs ≡ map (row_of n k) ds
+pub rows_same : (n : ℕ) (k : Cake) (cs ds : List Condition) → SameConditions k cs ds → map (row_of n k) cs ≡ map (row_of n k) ds
 rows_same n k [] [] h = refl
 rows_same n k (c ∷ cs) (d ∷ ds) h = λ i. row_same n k c d h.0 h.1.0 i ∷ rows_same n k cs ds h.1.1 i
 rows_same n k [] (d ∷ ds) h = absurd h
@@ -198,7 +185,7 @@ found_same n k cs ds kind f f' g g' h p q =
       fit = sub_fits_same n k.cake f f' g g' p q i && rows_fit_same n k.cake _ _ all i;
     }
 
-each_part_same :
+pub each_part_same :
     (es fs : List Address → Address → List Address → List Event) → ((before : List Address) (A : Address) (after : List Address) → es before A after ≡ fs before A after)
     → (before after : List Address) → each_part before after es ≡ each_part before after fs
 each_part_same es fs h before [] = refl

@@ -11,6 +11,7 @@ use Rattle.slice_core.specs.declared.node.Source.TheVariants.{Const, Reg}
 use Rattle.slice_linear.specs.declared.row.RowKind.TheVariants.{Zero, AtLeast, Above}
 use Rattle.slice_linear.specs.declared.row.RowKind.{RowKind}
 use Rattle.slice_linear.specs.Rows.{LinearRow}
+use Rattle.slice_paths.specs.Counting.{goals_on, goals_under}
 use Rattle.slice_paths.specs.Goals.{Goal, goals}
 use Rattle.slice_paths.specs.declared.goal.GoalKind.TheVariants as goal_kind
 
@@ -104,3 +105,40 @@ rows_of_joined :
     ∷ []
 unfolding joined_and_cut plus times negated ratio gcd_of gcd_steps
 rows_of_joined = refl
+
+-- ---- how many goals there are
+count_of_cut_and_choose : goals_on 2 cut_and_choose.tree (1 ∷ []) ≡ 6
+unfolding cut_and_choose
+count_of_cut_and_choose = refl
+
+count_of_joined : goals_on 2 joined_and_cut.tree (1 ∷ []) ≡ 8
+unfolding joined_and_cut
+count_of_joined = refl
+
+-- behind Low, where no choice is passed: all others
+behind_low : goals_under cut_and_choose 0 (Low ∷ []) goal_kind.Low ≡ 5
+unfolding cut_and_choose
+behind_low = refl
+
+-- behind the first pair, of those that share no choice, the cut, and the cut and the test
+behind_pair : goals_under cut_and_choose 0 (Go ∷ Yes ∷ []) (goal_kind.Envy 1 2) ≡ 3
+unfolding cut_and_choose
+behind_pair = refl
+
+behind_pair_cut : goals_under cut_and_choose 1 (Go ∷ Yes ∷ []) (goal_kind.Envy 1 2) ≡ 3
+unfolding cut_and_choose
+behind_pair_cut = refl
+
+behind_pair_test : goals_under cut_and_choose 2 (Go ∷ Yes ∷ []) (goal_kind.Envy 1 2) ≡ 1
+unfolding cut_and_choose
+behind_pair_test = refl
+
+-- behind Low of the second cut, of those that share the first: High, and two pairs in each of two parts
+behind_second : goals_under joined_and_cut 1 (Go ∷ Low ∷ []) goal_kind.Low ≡ 5
+unfolding joined_and_cut
+behind_second = refl
+
+-- behind the first pair in the first part, of those that share both cuts
+behind_part : goals_under joined_and_cut 2 (Go ∷ Go ∷ []) (goal_kind.Envy 1 2) ≡ 1
+unfolding joined_and_cut
+behind_part = refl

@@ -15,11 +15,11 @@ use Rattle.slice_paths.proofs.Fits.{IsIn}
 use Rattle.slice_paths.proofs.Parts.{in_either}
 use Rattle.slice_paths.proofs.Later.{in_each}
 
-in_part_passed : (go : List Address → Address → List Address → List Choice → Way) (other : Way) (pre before : List Address) (A : Address) (after : List Address) (cs : List Choice) → in_part go other pre (before ++ A ∷ after) (passed before ++ cs) ≡ go (pre ++ before) A after cs
+pub in_part_passed : (go : List Address → Address → List Address → List Choice → Way) (other : Way) (pre before : List Address) (A : Address) (after : List Address) (cs : List Choice) → in_part go other pre (before ++ A ∷ after) (passed before ++ cs) ≡ go (pre ++ before) A after cs
 in_part_passed go other pre [] A after cs = ap (λ (b : List Address). go b A after cs) (sym (append-nil pre))
 in_part_passed go other pre (x ∷ before) A after cs = in_part_passed go other (pre ++ x ∷ []) before A after cs ∙ ap (λ (b : List Address). go b A after cs) (append_assoc pre (x ∷ []) before)
 
-at_cut_passed : (on : List Choice → Way) (k : Way) (before : List Address) (cs : List Choice) → at_cut on k (passed before ++ cs) ≡ on (passed before ++ cs)
+pub at_cut_passed : (on : List Choice → Way) (k : Way) (before : List Address) (cs : List Choice) → at_cut on k (passed before ++ cs) ≡ on (passed before ++ cs)
 at_cut_passed on k [] cs = refl
 at_cut_passed on k (x ∷ before) cs = refl
 

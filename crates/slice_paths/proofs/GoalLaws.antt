@@ -92,7 +92,7 @@ length_agents (suc n) k f =
 pub length_row : (n : ℕ) (k : Cake) (d : Condition) → length (row_of n k d).coefs ≡ 1 + n * atom_count k
 length_row n k d = length_lowest (all_coefs n k d.form) ∙ omega (arith, length_agents n k d.form.at)
 
-length_rows : (n : ℕ) (k : Cake) (ds : List Condition) → All (λ (r : LinearRow). length r.coefs ≡ 1 + n * atom_count k) (map (row_of n k) ds)
+pub length_rows : (n : ℕ) (k : Cake) (ds : List Condition) → All (λ (r : LinearRow). length r.coefs ≡ 1 + n * atom_count k) (map (row_of n k) ds)
 length_rows n k [] = All-nil _
 length_rows n k (d ∷ ds) = All-cons (λ (r : LinearRow). length r.coefs ≡ 1 + n * atom_count k) (row_of n k d) (map (row_of n k) ds) (length_row n k d) (length_rows n k ds)
 

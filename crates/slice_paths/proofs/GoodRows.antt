@@ -6,6 +6,7 @@ use Rattle.std.proofs.lemmas.Int.{ints}
 use Rattle.std.proofs.lemmas.List.{length-map, length-append}
 use Rattle.slice_num.specs.Rational.{Rational, whole, Fits}
 use Rattle.slice_num.specs.Fitting.{fits}
+use Rattle.slice_num.specs.declared.choice.Choice.{Choice}
 use Rattle.slice_num.specs.declared.choice.Choice.TheVariants as choice
 use Rattle.slice_core.specs.Tree.{Tree, Ask, Set, Cut, Join, Test, Give, End}
 use Rattle.slice_num.specs.Pieces.{piece_at, each_part}
@@ -20,8 +21,9 @@ use Rattle.slice_atoms.specs.FormFits.{sub_fits}
 use Rattle.slice_atoms.specs.Forms.{Form, all_coefs, sub_form, fixed_form, piece_form}
 use Rattle.slice_paths.specs.Places.{Condition, Way, sum_form, first_way, ask_way, choose_way, cut_way, test_way, join_way, give_way, yes_kind, no_kind}
 use Rattle.slice_paths.specs.Goals.{row_of, pairs}
-use Rattle.slice_paths.specs.Coming.{goals_ahead, AreGoals, ComingGoalsFit}
+use Rattle.slice_paths.specs.Coming.{goals_ahead, AreGoals, ComingGoalsFit, GoalsBehindFit}
 use Rattle.slice_paths.specs.Events.{Event, Meets, Breaks, goal_at, goal_limit, row_fits, rows_fit, found, where_fit, low_goal, high_goal, envy_goal, cut_fits, sum_fits, events, events_of}
+use Rattle.slice_paths.specs.Fronts.{answered_in, taken_arm, events_behind, events_after}
 use Rattle.slice_paths.specs.declared.goal.GoalKind.{GoalKind}
 use Rattle.slice_paths.specs.declared.goal.GoalKind.TheVariants as goal_kind
 use Rattle.slice_paths.proofs.GoalLaws.{length_row}
@@ -136,3 +138,50 @@ coming_good (Meets t ∷ es) given h = by (nat_lt given goal_limit) t.fit refl r
 
 pub coming_goals_fit : ComingGoalsFit
 coming_goals_fit core = coming_good (events_of core) 0 (events_good core.agents core.tree [] (first_way core.agents))
+
+-- ---- behind choices that were passed
+good_answered : (go : List Address → Address → List Address → List Choice → List Event) → ((b : List Address) (x : Address) (a : List Address) (cs : List Choice) → AllGood (go b x a cs))
+    → (before parts : List Address) (cs : List Choice) → AllGood (answered_in go [] before parts cs)
+good_answered go h before [] cs = tt
+good_answered go h before (x ∷ ps) [] = tt
+good_answered go h before (x ∷ ps) (choice.No ∷ cs) = good_answered go h (before ++ x ∷ []) ps cs
+good_answered go h before (x ∷ ps) (choice.Go ∷ cs) = h before x ps cs
+good_answered go h before (x ∷ ps) (choice.Low ∷ cs) = tt
+good_answered go h before (x ∷ ps) (choice.High ∷ cs) = tt
+good_answered go h before (x ∷ ps) (choice.Yes ∷ cs) = tt
+
+good_arm : (one two : List Choice → List Event) → ((cs : List Choice) → AllGood (one cs)) → ((cs : List Choice) → AllGood (two cs)) → (cs : List Choice) → AllGood (taken_arm one two [] cs)
+good_arm one two h g [] = tt
+good_arm one two h g (choice.Yes ∷ cs) = h cs
+good_arm one two h g (choice.No ∷ cs) = g cs
+good_arm one two h g (choice.Low ∷ cs) = tt
+good_arm one two h g (choice.High ∷ cs) = tt
+good_arm one two h g (choice.Go ∷ cs) = tt
+
+behind_good : (n passed : ℕ) (t : Tree) (regs : List Form) (k : Way) (cs : List Choice) → AllGood (events_behind n passed t regs k cs)
+behind_good n zero t regs k cs = tt
+behind_good n (suc more) (Ask a p r next) regs k cs = behind_good n (suc more) next (regs ++ piece_form a (piece_at k.pieces p) ∷ []) (ask_way k) cs
+behind_good n (suc more) (Set r sum next) regs k cs = behind_good n (suc more) next (regs ++ sum_form regs sum.terms ∷ []) k cs
+behind_good n (suc more) (Cut a p amount l r next) regs k cs =
+    let f : Form = sum_form regs amount.terms in
+    let on : List Address → Address → List Address → List Event = λ b x c. where_fit (cut_fits n a f b x k) (events n next regs (cut_way a p f b x c k)) in
+    good_answered (λ before x after cs. events_behind n more next regs (cut_way a p f before x after k) cs ++ each_part (before ++ x ∷ []) after on)
+    (λ before x after cs.
+    good_append (events_behind n more next regs (cut_way a p f before x after k) cs) (each_part (before ++ x ∷ []) after on) (behind_good n more next regs (cut_way a p f before x after k) cs)
+    (good_parts on (before ++ x ∷ []) after (λ b y c. good_where (cut_fits n a f b y k) (events n next regs (cut_way a p f b y c k)) (events_good n next regs (cut_way a p f b y c k)))))
+    [] (piece_at k.pieces p) cs
+behind_good n (suc more) (Join p q r next) regs k cs = behind_good n (suc more) next regs (join_way p q k) cs
+behind_good n (suc more) (Test left right strict y z) regs k cs =
+    let f : Form = sum_form regs left.terms in
+    let g : Form = sum_form regs right.terms in
+    let one : Way = test_way (yes_kind strict) (sub_form f g) choice.Yes k in
+    let two : Way = test_way (no_kind strict) (sub_form g f) choice.No k in
+    let es : List Event = where_fit (sub_fits n k.cake g f) (events n z regs two) in
+    good_arm (λ cs. events_behind n more y regs one cs ++ es) (λ cs. events_behind n more z regs two cs)
+    (λ cs. good_append (events_behind n more y regs one cs) es (behind_good n more y regs one cs) (good_where (sub_fits n k.cake g f) (events n z regs two) (events_good n z regs two)))
+    (λ cs. behind_good n more z regs two cs) cs
+behind_good n (suc more) (Give p a next) regs k cs = behind_good n (suc more) next regs (give_way p a k) cs
+behind_good n (suc more) End regs k cs = tt
+
+pub goals_behind_fit : GoalsBehindFit
+goals_behind_fit core passed given trace = coming_good (events_after core passed trace) given (behind_good core.agents passed core.tree [] (first_way core.agents) trace)

@@ -38,7 +38,7 @@ beyond_last agents a (suc more) =
     ∙ sym (append_assoc (pairs_after a 1 agents) (pairs_beyond agents (a + 1) more) (pairs_after (a + 1 + more) 1 agents))
     ∙ ap (λ (c : ℕ). (pairs_after a 1 agents ++ pairs_beyond agents (a + 1) more) ++ pairs_after c 1 agents) (omega arith)
 
-beyond_pairs : (agents m : ℕ) → pairs_beyond agents 1 m ≡ pairs agents m
+pub beyond_pairs : (agents m : ℕ) → pairs_beyond agents 1 m ≡ pairs agents m
 beyond_pairs agents zero = refl
 beyond_pairs agents (suc m) =
     beyond_last agents 1 m

@@ -11,14 +11,14 @@ use Rattle.slice_atoms.specs.Forms.{Form, piece_form}
 use Rattle.slice_atoms.specs.Numbers.{name_of, cake_of, addresses_of, unknowns, all_keys}
 use Rattle.slice_paths.specs.Places.{Condition, ask_way}
 use Rattle.slice_paths.specs.Events.{events}
-use Rattle.slice_paths.specs.Same.{SameAt}
+use Rattle.slice_paths.specs.Same.{SameAt, SameForms, SameConditions}
 use Rattle.slice_paths.specs.Spots.{Known, form_of, regs_of, way_of, without_gifts, IsWithin}
 use Rattle.slice_paths.specs.Steps.{IsNotGiven, IsKnown, IsValueOf, IsAsked}
 use Rattle.slice_paths.specs.Sums.{AllWithin}
 use Rattle.slice_paths.specs.declared.spot.Gift.{Gift}
 use Rattle.slice_paths.proofs.Among.{piece_within}
 use Rattle.slice_paths.proofs.Counts.{piece_map}
-use Rattle.slice_paths.proofs.Depends.{SameForms, SameConditions, depends, same_self, forms_put}
+use Rattle.slice_paths.proofs.Depends.{depends, same_self, forms_put}
 use Rattle.slice_paths.proofs.Pieces.{pieces_mean_pieces}
 
 pub other_piece : {A : Type 0} (ps : List (List A)) (q p : ℕ) → q ≢ p → piece_at (emptied ps q) p ≡ piece_at ps p
@@ -63,6 +63,9 @@ asked s a p zs g n z h =
     let x = value_of s a p zs h g n z in
     let held = piece_form a (piece_at k.pieces p) in
     record {
+      same_regs = subst (λ (fs : List Form). SameForms (cake_of v.olds) fs (regs_of s ++ held ∷ [])) (sym (map-append (form_of v) s.regs (zs ∷ [])))
+          (forms_put (cake_of v.olds) (regs_of s) (regs_of s) (form_of v zs) held (same_forms (cake_of v.olds) (regs_of s)) x.same);
+      way = refl;
       comes = λ m r next.
           (ap (λ (fs : List Form). events m next fs (ask_way k)) (map-append (form_of v) s.regs (zs ∷ []))
           ∙ depends m next (regs_of s ++ form_of v zs ∷ []) (regs_of s ++ held ∷ []) (ask_way k) k.conditions k.cuts

@@ -13,33 +13,33 @@ use Rattle.slice_paths.specs.declared.goal.GoalKind.TheVariants as goal_kind
 use Rattle.slice_paths.specs.Events.{Event, Meets, Breaks, goal_at, where_fit, events, events_of, cut_fits, envy_goal, low_goal, high_goal, sum_fits, Tell, EventsTellGoals}
 
 -- the same before goals are numbered
-abbrev TellAims : ℕ → List Event → List Aim → Type 0
+abbrev pub TellAims : ℕ → List Event → List Aim → Type 0
 TellAims n [] as_ = as_ ≡ []
 TellAims n (Breaks ∷ es) as_ = ⊤
 TellAims n (Meets t ∷ es) [] = ⊥
 TellAims n (Meets t ∷ es) (a ∷ as_) = ((number : ℕ) → goal_of n number a ≡ goal_at number t) × TellAims n es as_
 
-tell_numbered : (n : ℕ) (es : List Event) (as_ : List Aim) (number : ℕ) → TellAims n es as_ → Tell es (numbered n number as_) number
+pub tell_numbered : (n : ℕ) (es : List Event) (as_ : List Aim) (number : ℕ) → TellAims n es as_ → Tell es (numbered n number as_) number
 tell_numbered n [] as_ number h = ap (numbered n number) h
 tell_numbered n (Breaks ∷ es) as_ number h = tt
 tell_numbered n (Meets t ∷ es) [] number h = absurd h
 tell_numbered n (Meets t ∷ es) (a ∷ as_) number h = (h.0 number, tell_numbered n es as_ (number + 1) h.1)
 
-tell_both : (n : ℕ) (es : List Event) (as_ : List Aim) (fs : List Event) (bs : List Aim) → TellAims n es as_ → TellAims n fs bs → TellAims n (es ++ fs) (as_ ++ bs)
+pub tell_both : (n : ℕ) (es : List Event) (as_ : List Aim) (fs : List Event) (bs : List Aim) → TellAims n es as_ → TellAims n fs bs → TellAims n (es ++ fs) (as_ ++ bs)
 tell_both n [] as_ fs bs h k = subst (λ (xs : List Aim). TellAims n fs (xs ++ bs)) (sym h) k
 tell_both n (Breaks ∷ es) as_ fs bs h k = tt
 tell_both n (Meets t ∷ es) [] fs bs h k = absurd h
 tell_both n (Meets t ∷ es) (a ∷ as_) fs bs h k = (h.0, tell_both n es as_ fs bs h.1 k)
 
-tell_where : (n : ℕ) (fit : Bool) (es : List Event) (as_ : List Aim) → TellAims n es as_ → TellAims n (where_fit fit es) as_
+pub tell_where : (n : ℕ) (fit : Bool) (es : List Event) (as_ : List Aim) → TellAims n es as_ → TellAims n (where_fit fit es) as_
 tell_where n true es as_ h = h
 tell_where n false es as_ h = tt
 
-aims_both : (n : ℕ) (ps qs : List Place) → aims n (ps ++ qs) ≡ aims n ps ++ aims n qs
+pub aims_both : (n : ℕ) (ps qs : List Place) → aims n (ps ++ qs) ≡ aims n ps ++ aims n qs
 aims_both n [] qs = refl
 aims_both n (p ∷ ps) qs = ap (λ (xs : List Aim). aims_at n p.stop p.way ++ xs) (aims_both n ps qs) ∙ sym (append_assoc (aims_at n p.stop p.way) (aims n ps) (aims n qs))
 
-tell_parts :
+pub tell_parts :
     (n : ℕ) (es : List Address → Address → List Address → List Event) (ps : List Address → Address → List Address → List Place)
     → ((before : List Address) (A : Address) (after : List Address) → TellAims n (es before A after) (aims n (ps before A after)))
     → (before after : List Address) → TellAims n (each_part before after es) (aims n (each_part before after ps))
@@ -53,7 +53,7 @@ tell_envies : (n : ℕ) (k : Way) (ps : List (ℕ × ℕ)) → TellAims n (map (
 tell_envies n k [] = refl
 tell_envies n k (p ∷ ps) = (λ number. refl, tell_envies n k ps)
 
-tells : (n : ℕ) (t : Tree) (regs : List Form) (k : Way) → TellAims n (events n t regs k) (aims n (places t regs k))
+pub tells : (n : ℕ) (t : Tree) (regs : List Form) (k : Way) → TellAims n (events n t regs k) (aims n (places t regs k))
 tells n (Ask a p r next) regs k = tells n next (regs ++ piece_form a (piece_at k.pieces p) ∷ []) (ask_way k)
 tells n (Set r sum next) regs k =
     let rs = regs ++ sum_form regs sum.terms ∷ [] in

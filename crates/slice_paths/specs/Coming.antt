@@ -1,9 +1,11 @@
 -- The goals that a stream gives yet.
 use Rattle.std.specs.Prelude.{◌≡◌, ℕ, ◌+◌, ◌<◌, nat_lt, ⊤, List, [], ◌∷◌, ◌++◌, Some, None, if◌then◌else◌}
+use Rattle.slice_num.specs.declared.choice.Choice.{Choice}
 use Rattle.slice_core.specs.Tree.{Core}
 use Rattle.std.specs.declared.option.Option.{Option}
 use Rattle.slice_linear.specs.Rows.{AreRowsOver, width}
 use Rattle.slice_paths.specs.Events.{Event, Meets, Breaks, NextGoal, Gives, NoMore, Overflows, OverLimit, next_goal, goal_at, goal_limit, events_of}
+use Rattle.slice_paths.specs.Fronts.{events_after}
 use Rattle.slice_paths.specs.Goals.{Goal, goals}
 use Rattle.slice_paths.specs.declared.goal.GoalFault.TheVariants as fault
 use Rattle.slice_paths.specs.declared.goal.GoalFault.{GoalFault}
@@ -33,6 +35,10 @@ fault_ahead (Meets t ∷ es) given = if nat_lt given goal_limit then (if t.fit t
 abbrev pub coming_of : List Event → ℕ → Coming
 coming_of ahead given = record { given = given; goals = goals_ahead ahead given; fault = fault_ahead ahead given }
 
+-- the goals of a core, as they come from the start
+abbrev pub coming_on : Core → Coming
+coming_on core = coming_of (events_of core) 0
+
 -- what a call's next_goal says of what was coming
 abbrev pub SaysOf : NextGoal → Coming → Type 0
 SaysOf (Gives g rest) c =
@@ -57,3 +63,7 @@ GoalsComeFirst = (core : Core) → ComeFirst core
 -- the goals that come are numbered in order, and the rows of each are over the same unknowns and fit
 abbrev pub ComingGoalsFit : Type 0
 ComingGoalsFit = (core : Core) → AreGoals 0 (goals_ahead (events_of core) 0)
+
+-- and so are those that come behind all that follows the first passed choices of a trace
+abbrev pub GoalsBehindFit : Type 0
+GoalsBehindFit = (core : Core) (passed given : ℕ) (trace : List Choice) → AreGoals given (goals_ahead (events_after core passed trace) given)

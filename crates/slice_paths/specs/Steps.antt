@@ -14,8 +14,8 @@ use Rattle.slice_atoms.specs.FormFits.{sub_fits}
 use Rattle.slice_atoms.specs.Forms.{piece_form, sub_form}
 use Rattle.slice_atoms.specs.Numbers.{IsNumbering, all_keys, cake_of, name_of, part_of, next_atom, cut_at}
 use Rattle.slice_paths.specs.Events.{events, sum_fits, cut_fits}
-use Rattle.slice_paths.specs.Places.{sum_form, test_way, give_way, join_way, cut_way}
-use Rattle.slice_paths.specs.Same.{SameAt}
+use Rattle.slice_paths.specs.Places.{Way, sum_form, ask_way, test_way, give_way, join_way, cut_way}
+use Rattle.slice_paths.specs.Same.{SameAt, SameForms, SameConditions}
 use Rattle.slice_paths.specs.Spots.{Known, form_of, regs_of, way_of, IsWithin, IsSplit}
 use Rattle.slice_paths.specs.Sums.{AllWithin}
 use Rattle.slice_paths.specs.declared.spot.Condition as held
@@ -58,8 +58,11 @@ pub record IsValueOf (a : ℕ) (parts : List Address) (s : Known) (zs : List Ter
 
 -- ---- steps
 
--- the agent was asked for the piece's value: the same comes up as before the question
+-- the agent was asked for the piece's value: a register has the coefficients of the piece's form in the atoms, and the same
+-- comes up as before the question
 pub record AskedTo (a p : ℕ) (s t : Known) : Type 0 where
+  pub same_regs : SameForms (cake_of s.atoms.olds) (regs_of t) (regs_of s ++ piece_form a (piece_at (way_of s).pieces p) ∷ [])
+  pub way : way_of t ≡ ask_way (way_of s)
   pub comes : (n r : ℕ) (next : Tree) → events n next (regs_of t) (way_of t) ≡ events n (Ask a p r next) (regs_of s) (way_of s)
   pub known : IsKnown t
 
@@ -151,14 +154,20 @@ pub record HalvedTo (p part : ℕ) (s t : Known) : Type 0 where
 abbrev pub parts_at : Known → ℕ → List Address
 parts_at s p = map (name_of s.atoms.olds) (piece_at s.atoms.pieces p)
 
--- a cut was answered in that part of the piece: the numbers of what its answer tells fit, and the same comes up as on the
--- way behind it
+-- the way of a cut that is answered in that part of the piece
+abbrev pub answer_way : ℕ → ℕ → ℕ → List Term → Known → Way
+answer_way a p part amount s =
+    cut_way a p (form_of s.atoms amount) (take part (parts_at s p)) (name_of s.atoms.olds (part_of s.atoms p part)) (drop (part + 1) (parts_at s p)) (way_of s)
+
+-- a cut was answered in that part of the piece: the numbers of what its answer tells fit; registers and conditions have the
+-- coefficients in the atoms that they have on the way behind it; and the same comes up as on that way
 pub record CutTo (a p part : ℕ) (amount : List Term) (s t : Known) : Type 0 where
   pub piece : piece_at (way_of s).pieces p ≡ take part (parts_at s p) ++ name_of s.atoms.olds (part_of s.atoms p part) ∷ drop (part + 1) (parts_at s p)
   pub fit : cut_fits s.atoms.agents a (form_of s.atoms amount) (take part (parts_at s p)) (name_of s.atoms.olds (part_of s.atoms p part)) (way_of s) ≡ true
-  pub comes : (n : ℕ) (next : Tree)
-      → events n next (regs_of t) (way_of t)
-      ≡ events n next (regs_of s) (cut_way a p (form_of s.atoms amount) (take part (parts_at s p)) (name_of s.atoms.olds (part_of s.atoms p part)) (drop (part + 1) (parts_at s p)) (way_of s))
+  pub same_regs : SameForms (answer_way a p part amount s).cake (regs_of s) (regs_of t)
+  pub same_conditions : SameConditions (answer_way a p part amount s).cake (answer_way a p part amount s).conditions (way_of t).conditions
+  pub way : way_of t ≡ record (answer_way a p part amount s) { conditions = (way_of t).conditions; cuts = [] }
+  pub comes : (n : ℕ) (next : Tree) → events n next (regs_of t) (way_of t) ≡ events n next (regs_of s) (answer_way a p part amount s)
   pub known : IsKnown t
 
 -- the numbers of what the answer tells don't fit

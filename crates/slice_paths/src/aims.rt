@@ -21,8 +21,8 @@ use slice_linear::{Form, FormFault, Row};
 use slice_num::{Choice, Frac, Memory};
 use std::alloc::Global;
 
-// So many goals may be given.
-const LIMIT: u64 = 1_000_000;
+/// So many goals may be given.
+pub(crate) const LIMIT: u64 = 1_000_000;
 
 /// The fault of a form as one of a goal, after so many goals.
 pub(crate) fn goal_fault(fault: FormFault, given: u64) -> GoalFault

@@ -1,8 +1,11 @@
 //! What is left to do at a spot.
+ghost use Rattle.std.specs.Prelude.{◌≡◌, ◌++◌, ◌∷◌, [], OnOk, OnErr};
+
 use crate::goal::Goal;
 use crate::spot::Spot;
 use slice_core::Node;
 use slice_linear::Form;
+use slice_num::Memory;
 
 /// A cut that is met: who cuts which piece, the form of its amount, and what follows.
 #[derive(Drop)]
@@ -54,4 +57,15 @@ pub(crate) enum Onward<'a> {
 pub(crate) enum Step<'a> {
     Quiet(Onward<'a>),
     Told(Goal, Frame<'a>),
+}
+
+/// Puts a frame behind the others. `Err` comes only for want of memory.
+pub(crate) fn put_frame<'a>(frames: &mut Vec<Frame<'a>>, frame: Frame<'a>) -> Result<(), Memory>
+    ensures ok { OnOk result (frames.new.items ≡ frames.old.items ++ frame.entry ∷ []) }
+    ensures err { OnErr result (frames.new.items ≡ frames.old.items) }
+{
+    if frames.push(frame).is_err() {
+        return Err(Memory);
+    }
+    Ok(())
 }

@@ -27,6 +27,15 @@ pub enum GoalFault {
     Memory,
 }
 
+/// Why no goals were passed over.
+#[derive(Clone, Copy, Debug, PartialEq, Eq)]
+pub enum SkipFault {
+    /// With those passed over more than 1,000,000 goals would have been given.
+    GoalLimit,
+    /// Memory ran out.
+    Memory,
+}
+
 /// A goal: what is to be refuted, so that no run that makes these choices ends so. Contracts see it as a `Goal` of the
 /// definitions.
 #[derive(Drop)]

@@ -2,14 +2,16 @@
 #![tactic(auto)]
 
 mod aims;
+mod counting;
 mod frames;
 pub mod goal;
 pub mod laws;
+mod retrace;
 mod rows;
 mod spot;
 pub mod stream;
 mod sums;
 mod walk;
 
-pub use goal::{Goal, GoalFault, GoalKind};
+pub use goal::{Goal, GoalFault, GoalKind, SkipFault};
 pub use stream::GoalStream;

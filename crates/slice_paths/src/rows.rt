@@ -4,6 +4,7 @@ ghost use Rattle.slice_linear.specs.declared.forms.FormFault.TheVariants as Form
 ghost use Rattle.slice_linear.specs.declared.row.RowKind.TheVariants.{Above};
 ghost use Rattle.slice_atoms.specs.Numbers.{IsNumbering, cake_of, all_keys, unknowns};
 ghost use Rattle.slice_paths.specs.Events.{row_fits, rows_fit};
+ghost use Rattle.slice_paths.specs.Fronts.{rows_on};
 ghost use Rattle.slice_paths.specs.Goals.{row_of, rows_of};
 ghost use Rattle.slice_paths.specs.Places.{whole_condition, first_conditions};
 ghost use Rattle.slice_paths.specs.RowsMade.{row_at, row_fits_at, condition_row, condition_rows_fit};
@@ -49,6 +50,33 @@ pub(crate) fn rows(
         Err(fault) => return Err(fault),
     }
     match put_row(&mut rows, alloc, RowKind::Above, own, order.as_slice()) {
+        Ok(()) => Ok(rows),
+        Err(fault) => Err(fault),
+    }
+}
+
+/// The rows of a spot's way, over its atoms, without that of a goal. It is refused for want of memory, and where a number of
+/// a row doesn't fit.
+pub(crate) fn way_rows(alloc: Global, agents: u32, spot: &Spot) -> Result<Vec<Row>, FormFault>
+    requires numbering { IsNumbering spot.now.atoms }
+    requires agents { agents ≡ spot.now.atoms.agents }
+    ensures { IfOk result (λ v. v.items ≡ rows_on agents (way_of spot.now)) }
+{
+    let order = match spot.atoms.keys(alloc) {
+        Ok(order) => order,
+        Err(Memory) => return Err(FormFault::Memory),
+    };
+    let mut rows = Vec::new(alloc);
+    match put_first(&mut rows, alloc, &spot.atoms, agents, order.as_slice()) {
+        Ok(()) => {}
+        Err(fault) => return Err(fault),
+    }
+    match put_conditions(
+        &mut rows,
+        alloc,
+        spot.conditions.as_slice(),
+        order.as_slice(),
+    ) {
         Ok(()) => Ok(rows),
         Err(fault) => Err(fault),
     }

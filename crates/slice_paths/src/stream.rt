@@ -1,47 +1,70 @@
 //! The goals of a core, one at a time.
-ghost use Rattle.std.specs.Prelude.{◌≡◌, ◌<◌, ◌+◌, ◌++◌, ◌∷◌, ℕ, [], IfOk, IfErr, OnOk, OnErr, IsSome, is_some, if◌then◌else◌};
+ghost use Rattle.std.specs.Prelude.{◌≡◌, ◌<◌, ◌≤◌, ◌+◌, ◌++◌, ◌∷◌, ℕ, [], ⊤, drop, IfOk, IfErr, OnOk, OnErr, IsSome, IsNone, Some, None, is_some, MatchOption, if◌then◌else◌};
 ghost use Rattle.slice_core.specs.Cores.{core_of};
 ghost use Rattle.slice_paths.specs.Ahead.{left_at, ahead_of, frames_of};
 ghost use Rattle.slice_paths.specs.Events.{events_of, next_goal};
+ghost use Rattle.slice_paths.specs.Fronts.{cover_rows, front_of, events_after, ShareFirst};
+ghost use Rattle.slice_paths.specs.Goals.{Goal as GoalOf, goals};
+ghost use Rattle.slice_paths.specs.Streams.{last_after, kind_after, TellsRest, IsGivenLast};
 ghost use Rattle.slice_paths.specs.Told.{IsNextGoal, IsRefusal};
 ghost use Rattle.slice_paths.specs.Walking.{AllReady, OnwardReady, CutReady, PairsReady, RestReady, IsStep, IsNoStep, IsTurn};
 ghost use Rattle.slice_paths.specs.declared.frames.Onward.TheVariants as onward;
 ghost use Rattle.slice_paths.specs.declared.frames.Rest.TheVariants as Rest;
+ghost use Rattle.slice_paths.specs.declared.goal.SkipFault.TheVariants as SkipFault;
 ghost use Rattle.slice_core.specs.Nodes.{tree_of};
 
 use crate::aims::{envy, goal_fault, high, low};
-use crate::frames::{CutHere, Frame, Onward, Rest, Step};
-use crate::goal::{Goal, GoalFault};
+use crate::counting::count_from_root;
+use crate::frames::{CutHere, Frame, Onward, Rest, Step, put_frame};
+use crate::goal::{Goal, GoalFault, GoalKind, SkipFault};
+use crate::retrace::{cover_of, frames_behind};
 use crate::spot::Spot;
 use crate::walk::{take_no, take_part, walk};
 use slice_core::Core;
-use slice_num::Memory;
+use slice_linear::Row;
+use slice_num::{Choice, Memory};
 use std::alloc::Global;
 use std::marker::Model;
 
 /// The goals of a core, one at a time, each made when it is asked for: Low and High at each cut, before what follows an
 /// answer in each part of the piece; yes before no at each test; and each pair's envy at each end. Held are the spots on the
-/// way from which something is left. Contracts see what is ahead and how many goals were given.
+/// way from which something is left. Contracts see what is ahead, how many goals were given, the core, and of the goal given
+/// last the choices and the kind.
 #[derive(Drop)]
 pub struct GoalStream<'a> {
     alloc: Global,
+    core: &'a Core,
     agents: u32,
     given: u64,
+    last: Vec<Choice>,
+    kind: GoalKind,
     frames: Vec<Frame<'a>>,
 }
 
 impl<'a> Model for GoalStream<'a> {
-    ghost use Rattle.std.specs.Prelude.{[]};
-    ghost use Rattle.slice_paths.specs.Events.{Stream};
+    ghost use Rattle.std.specs.Prelude.{[], ◌≡◌, ◌≤◌};
+    ghost use Rattle.slice_paths.specs.Streams.{Stream};
 
     ghost Value = { Stream };
 
+    ghost use Rattle.slice_core.specs.contracts.core_tree.Core as core_row;
+    ghost use Rattle.std.specs.Coded.{codes};
+
+    ghost coded = { Prim.hlevel (codes, core_row.the_row.coded) };
+
+    ghost use Rattle.slice_core.specs.Cores.{core_of};
     ghost use Rattle.slice_paths.specs.Ahead.{ahead_of};
     ghost use Rattle.slice_paths.specs.Walking.{AllReady};
 
-    ghost view = { λ s. record { ahead = ahead_of s.agents s.frames.items []; given = s.given } };
+    ghost view = { λ s. record {
+      ahead = ahead_of s.agents s.frames.items [];
+      given = s.given;
+      core = s.core.now;
+      last = s.last.items;
+      kind = s.kind;
+    } };
 
-    ghost invariant = { λ s. AllReady s.agents s.frames.items };
+    ghost invariant = { λ s. AllReady s.agents s.frames.items × (s.agents ≡ (core_of s.core.now).agents) × (s.given ≤ 1000000) };
 }
 
 impl<'a> GoalStream<'a> {
@@ -49,21 +72,28 @@ impl<'a> GoalStream<'a> {
     pub fn new(alloc: Global, core: &'a Core) -> Result<GoalStream<'a>, Memory>
         ensures ahead { IfOk result (λ s. s.ahead ≡ events_of (core_of core.now)) }
         ensures given { IfOk result (λ s. s.given ≡ 0) }
+        ensures core { IfOk result (λ s. s.core ≡ core.now) }
+        ensures last { IfOk result (λ s. s.last ≡ []) }
+        ensures rest { IfOk result (λ s. TellsRest s) }
     {
         let agents = core.agents();
         let spot = Spot::start(alloc, agents)?;
         let rest = Rest::Walk(core.root());
         let mut frames = Vec::new(alloc);
         put_frame(&mut frames, Frame { rest, spot })?;
+        let last = Vec::new(alloc);
         Ok(GoalStream {
             alloc,
+            core,
             agents,
             given: 0,
+            last,
+            kind: GoalKind::Low,
             frames,
         })
     }
 
-    /// How many goals were given.
+    /// How many goals were given, with those passed over.
     pub fn given(&self) -> u64
         ensures { result ≡ self.now.given }
     {
@@ -77,14 +107,98 @@ impl<'a> GoalStream<'a> {
     pub fn next(&mut self) -> Result<Option<Goal>, GoalFault>
         ensures ok { IfOk result (λ o. IsNextGoal o self.new.ahead (next_goal self.old.ahead self.old.given)) }
         ensures given { IfOk result (λ o. self.new.given ≡ self.old.given + (if is_some o then 1 else 0)) }
+        ensures last { IfOk result (λ o. self.new.last ≡ last_after o self.old.last) }
+        ensures kind { IfOk result (λ o. self.new.kind ≡ kind_after o self.old.kind) }
+        ensures rest { TellsRest self.old → IfOk result (λ o. TellsRest self.new × MatchOption o ⊤ (λ g. IsGivenLast self.new g)) }
+        ensures core { self.new.core ≡ self.old.core }
         ensures err { IfErr result (λ f. IsRefusal f self.old.given (next_goal self.old.ahead self.old.given)) }
     {
         match advance(self.alloc, self.agents, self.given, &mut self.frames) {
             Err(fault) => Err(fault),
             Ok(None) => Ok(None),
             Ok(Some(goal)) => {
+                let Ok(last) = Vec::from_slice(self.alloc, goal.trace()) else {
+                    return Err(GoalFault::Memory);
+                };
+                self.last = last;
+                self.kind = goal.kind();
                 self.given += 1;
                 Ok(Some(goal))
+            }
+        }
+    }
+
+    /// The rows behind the first so many passed choices of the goal given last, without that of a goal: the whole is above 0,
+    /// each agent's values make it up, and one row for each of these choices, over the atoms there. None exactly where the
+    /// goal has fewer. A cut that was answered is one passed choice, and so is a test. Before the first goal no choice was
+    /// passed. `Err` is want of memory. A number that didn't fit would be answered so too; none is met, since each of these
+    /// fitted when the goal was made, but no clause says so.
+    pub fn cover(&self, passed: u32) -> Result<Option<Vec<Row>>, Memory>
+        ensures { IfOk result (λ o. MatchOption o (cover_rows (core_of self.now.core) passed self.now.last ≡ None) (λ v. cover_rows (core_of self.now.core) passed self.now.last ≡ Some v.items)) }
+    {
+        match cover_of(self.alloc, self.core, self.last.as_slice(), passed) {
+            Ok(rows) => Ok(rows),
+            Err(_) => Err(Memory),
+        }
+    }
+
+    /// How many goals that are left have the same first so many passed choices as the one given last, those whose ways have
+    /// numbers that don't fit included: those that `skip` would pass over. GoalLimit comes exactly where with them more than
+    /// 1,000,000 goals would have been given, Memory only for want of memory.
+    pub fn sharing(&self, passed: u32) -> Result<u64, SkipFault>
+        requires rest { TellsRest self.now }
+        requires last { (g : GoalOf) × IsGivenLast self.now g }
+        requires has { front_of passed (core_of self.now.core).tree self.now.last ≡ None → ⊥ }
+        ensures ok { IfOk result (λ n. ShareFirst (core_of self.now.core) passed self.now.last (drop self.now.given (goals (core_of self.now.core))) n × (self.now.given + n ≤ 1000000)) }
+        ensures limit { IfErr result (λ f. f ≡ SkipFault.GoalLimit → (n : ℕ) × ShareFirst (core_of self.now.core) passed self.now.last (drop self.now.given (goals (core_of self.now.core))) n × (1000000 < self.now.given + n)) }
+    {
+        match count_from_root(
+            self.alloc,
+            self.core,
+            passed,
+            self.last.as_slice(),
+            self.kind,
+            self.given,
+        ) {
+            Err(fault) => Err(fault),
+            Ok(given) => Ok(given - self.given),
+        }
+    }
+
+    /// Passes over all goals that come yet and have the same first so many passed choices as the one given last, those whose
+    /// ways have numbers that don't fit included, and tells how many they were. After that `next` gives what comes behind
+    /// them. GoalLimit comes exactly where more than 1,000,000 goals would have been given then; nothing changes. Memory is
+    /// want of memory. A number that didn't fit on the way to these choices would be answered so too; none is met, since each
+    /// fitted when the goal was made, but no clause says so.
+    pub fn skip(&mut self, passed: u32) -> Result<u64, SkipFault>
+        requires rest { TellsRest self.old }
+        requires last { (g : GoalOf) × IsGivenLast self.old g }
+        requires has { front_of passed (core_of self.old.core).tree self.old.last ≡ None → ⊥ }
+        ensures ok { IfOk result (λ n. ShareFirst (core_of self.old.core) passed self.old.last (drop self.old.given (goals (core_of self.old.core))) n × (self.new.given ≡ self.old.given + n) × (self.new.ahead ≡ events_after (core_of self.old.core) passed self.old.last)) }
+        ensures few { OnOk result (self.new.given ≤ 1000000) }
+        ensures rest { OnOk result (TellsRest self.new) }
+        ensures limit { IfErr result (λ f. f ≡ SkipFault.GoalLimit → (n : ℕ) × ShareFirst (core_of self.old.core) passed self.old.last (drop self.old.given (goals (core_of self.old.core))) n × (1000000 < self.old.given + n)) }
+        ensures err { OnErr result (self.new ≡ self.old) }
+        ensures core { self.new.core ≡ self.old.core }
+    {
+        let given = match count_from_root(
+            self.alloc,
+            self.core,
+            passed,
+            self.last.as_slice(),
+            self.kind,
+            self.given,
+        ) {
+            Err(fault) => return Err(fault),
+            Ok(given) => given,
+        };
+        match frames_behind(self.alloc, self.core, self.last.as_slice(), passed) {
+            Err(_) => Err(SkipFault::Memory),
+            Ok(frames) => {
+                let skipped = given - self.given;
+                self.frames = frames;
+                self.given = given;
+                Ok(skipped)
             }
         }
     }
@@ -100,6 +214,7 @@ fn advance<'a>(
     requires { AllReady agents frames.old.items }
     ensures ok { IfOk result (λ o. IsNextGoal o (ahead_of agents frames.new.items []) (next_goal (ahead_of agents frames.old.items []) given)) }
     ensures few { IfOk result (λ o. IsSome o → given < 1000000) }
+    ensures end { IfOk result (λ o. IsNone o → ahead_of agents frames.new.items [] ≡ []) }
     ensures err { IfErr result (λ f. IsRefusal f given (next_goal (ahead_of agents frames.old.items []) given)) }
     ensures ready { AllReady agents frames.new.items }
 {
@@ -153,17 +268,6 @@ fn put<'a>(frames: &mut Vec<Frame<'a>>, onward: Onward<'a>) -> Result<(), Memory
             Ok(()) => put_frame(frames, sooner),
         },
     }
-}
-
-// Puts a frame behind the others.
-fn put_frame<'a>(frames: &mut Vec<Frame<'a>>, frame: Frame<'a>) -> Result<(), Memory>
-    ensures ok { OnOk result (frames.new.items ≡ frames.old.items ++ frame.entry ∷ []) }
-    ensures err { OnErr result (frames.new.items ≡ frames.old.items) }
-{
-    if frames.push(frame).is_err() {
-        return Err(Memory);
-    }
-    Ok(())
 }
 
 // Does one thing of what is left at a spot.

@@ -256,8 +256,8 @@ pub(crate) fn take_no<'a>(
     }
 }
 
-// What left less right comes to at yes.
-fn yes_kind(strict: bool) -> RowKind
+/// What left less right comes to at yes.
+pub(crate) fn yes_kind(strict: bool) -> RowKind
     ensures { result ≡ kind_at_yes strict }
 {
     if strict {
@@ -267,8 +267,8 @@ fn yes_kind(strict: bool) -> RowKind
     }
 }
 
-// What right less left comes to at no.
-fn no_kind(strict: bool) -> RowKind
+/// What right less left comes to at no.
+pub(crate) fn no_kind(strict: bool) -> RowKind
     ensures { result ≡ kind_at_no strict }
 {
     if strict {

@@ -1,5 +1,6 @@
 // What `certify`, `verify` and `demo` say.
 mod certified;
+mod covered;
 mod demos;
 mod hostile;
 mod neighbours;

@@ -5,11 +5,11 @@ mod checked;
 mod expanded;
 mod rows;
 
-use slice_top::{Status, top};
 use crate::files::{HALF, JP, LD, PROTOCOLS, UNIFORM, VALUES};
 use crate::{Text, files_of, words_of};
 use expanded::EXPANDED;
 use slice_io::{GrowingSink, MemoryShelf, MemorySink, NamedFile};
+use slice_top::{Status, top};
 use std::alloc::{AllocError, Global};
 use std::process::Abort;
 use std::str;

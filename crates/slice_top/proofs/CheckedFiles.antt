@@ -2,7 +2,6 @@
 use Rattle.std.proofs.Common.{◌≡◌, ℕ, List, Option, Some, None}
 use Rattle.slice_io.specs.Files.{Files, told_file}
 use Rattle.slice_core.specs.Tree.{Core}
-use Rattle.slice_check.specs.Certificate.{claim_on}
 use Rattle.slice_check.specs.Faults.{Fails, IsUnread}
 use Rattle.slice_check.specs.declared.answer.CertFault.{CertFault}
 use Rattle.slice_check.specs.declared.answer.CertFault.TheVariants as fault
@@ -23,7 +22,7 @@ not_refused name (fault.Overflow goal unknown) r u e = absurd u
 
 -- the checker gives the file up
 pub checker_stops : (told : Option Files) (name : List ℕ) (core : Core) (rose : Type 0) (f : CertFault) (s : Stop)
-    → ((bytes : List ℕ) → told_file told name ≡ Some (Some bytes) → Fails (claim_on core) bytes f) → (told_file told name ≡ Some None → IsUnread f) → (f ≡ fault.ReadFault → rose)
+    → ((bytes : List ℕ) → told_file told name ≡ Some (Some bytes) → Fails core bytes f) → (told_file told name ≡ Some None → IsUnread f) → (f ≡ fault.ReadFault → rose)
     → IsCheckerStop name f s → StopsBy (RefusesCertificate told name core) (λ file. file ≡ name) rose s
 checker_stops told name core rose f (stop.Refused r) fails unread read h =
     (given_up f h.0 (record { there = λ e. not_refused name f r (unread e) h.0; says = fails }), h.1)

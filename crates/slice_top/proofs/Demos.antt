@@ -5,7 +5,7 @@ use Rattle.slice_io.specs.Growing.{HeldFile, files_held}
 use Rattle.slice_io.specs.Told.{appended}
 use Rattle.slice_json.specs.Texts.{line_of}
 use Rattle.slice_core.specs.Tree.{Core}
-use Rattle.slice_check.specs.Certificate.{Accepts, claim_on}
+use Rattle.slice_check.specs.Certificate.{Accepts}
 use Rattle.slice_check.specs.Faults.{IsAnswer}
 use Rattle.slice_check.specs.declared.answer.CertAnswer.{CertAnswer}
 use Rattle.slice_check.specs.declared.answer.CertAnswer.TheVariants.{Rejected}
@@ -39,12 +39,12 @@ told_report f report e d = λ i. told_file (Some (files_held (record { name = e 
 
 module _ (core : Core) (f : HeldFile) (report : List ℕ) (e : f.name ≡ report_name) (d : f.bytes ≡ report) where
   -- what the checker says of that file it says of the report
-  pub says_of_report : (x : CertAnswer) → ChecksFile (Some (files_held f)) report_name core x → IsAnswer (claim_on core) report x
+  pub says_of_report : (x : CertAnswer) → ChecksFile (Some (files_held f)) report_name core x → IsAnswer core report x
   says_of_report x h = h.says report (told_report f report e d)
 
   -- of a certificate it says no rejection
-  pub not_rejected : (r : Rejection) → ChecksFile (Some (files_held f)) report_name core (Rejected r) → Accepts (claim_on core) report → ⊥
-  not_rejected r h a = rejected_is_no_certificate (claim_on core) report r (says_of_report (Rejected r) h) a
+  pub not_rejected : (r : Rejection) → ChecksFile (Some (files_held f)) report_name core (Rejected r) → Accepts core report → ⊥
+  not_rejected r h a = rejected_is_no_certificate core report r (says_of_report (Rejected r) h) a
 
 -- ---- what follows the report
 

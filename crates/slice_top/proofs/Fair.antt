@@ -1,11 +1,10 @@
--- Where no goal of a program's core has rows with a solution, every run of the program is fair.
+-- Where each goal of a program's core is refuted, every run of the program is fair.
 use Rattle.std.proofs.Common.{◌≡◌, ◌∙◌, ℕ, ◌++◌, List, [], length, refl, ap, sym, subst}
 use Rattle.std.specs.List.{All}
 use Rattle.slice_num.specs.Valuation.{Valuation, IsValuationList}
 use Rattle.slice_num.specs.declared.cut_answer.CutAnswer.{CutAnswer}
 use Rattle.slice_ast.specs.Code.{PlainProgram}
 use Rattle.slice_parse.specs.Laws.{IsProgramOf}
-use Rattle.slice_linear.specs.Rows.{HaveNoSolution}
 use Rattle.slice_core.specs.Agents.{IsAgent}
 use Rattle.slice_core.specs.Division.{IsDivision, IsFair}
 use Rattle.slice_core.specs.Measures.{worth_of, length_of}
@@ -16,7 +15,8 @@ use Rattle.slice_core.specs.WellFormed.{IsWellFormed}
 use Rattle.slice_core.proofs.Kept.{runs_divide}
 use Rattle.slice_core.proofs.MeasureLaws.{share_values_are_measures}
 use Rattle.slice_paths.specs.Goals.{Goal, goals}
-use Rattle.slice_paths.proofs.Solutions.{refuted_means_fair}
+use Rattle.slice_paths.specs.RunLaws.{IsRefuted}
+use Rattle.slice_paths.proofs.OnTheWay.{refuted_on_the_way}
 use Rattle.slice_expand.specs.Expansion.{core_of}
 use Rattle.slice_expand.specs.Kept.{without_trace}
 use Rattle.slice_expand.specs.ProgramRun.{Few}
@@ -52,9 +52,9 @@ few_ends (core.Few other) goes query few can = can
 few_ends (core.Bad other) goes query few can = cc
 few_ends core.Many goes query few can = cc
 
-module _ (p : PlainProgram) (formed : IsWellFormed (core_of p)) (none : All (λ (g : Goal). HaveNoSolution g.rows) (goals (core_of p))) where
+module _ (p : PlainProgram) (formed : IsWellFormed (core_of p)) (none : All (IsRefuted (core_of p)) (goals (core_of p))) where
   is_fair : (vs : List Valuation) → IsValuationList p.agents.value vs → (ys : List CutAnswer) → IsFair (core_of p).agents (worth_of vs) (core_run_on vs (core_of p) ys)
-  is_fair vs list ys = refuted_means_fair (core_of p) formed.agents_there none (worth_of vs) (length_of vs) ys (share_values_are_measures (core_of p).agents vs list)
+  is_fair vs list ys = refuted_on_the_way (core_of p) formed.agents_there none (worth_of vs) (length_of vs) ys (share_values_are_measures (core_of p).agents vs list)
 
   every_run : (vs : List Valuation) → IsValuationList p.agents.value vs → (ys : List CutAnswer) → IsFairEnd vs (run_on vs p ys)
   every_run vs list ys =
@@ -82,6 +82,7 @@ module _ (p : PlainProgram) (formed : IsWellFormed (core_of p)) (none : All (λ 
   pub every_fair : EveryRunIsFair p
   every_fair = record { fair = every_run; some = some_run; on = run_goes_on }
 
-pub unsolved_fair : (text : List ℕ) (p : PlainProgram) (c : Core) → IsProgramOf text p → IsCoreOf p c → All (λ (g : Goal). HaveNoSolution g.rows) (goals c) → EveryRunIsFair p
-unsolved_fair text p c is made none =
-    every_fair p (core_formed text p c is made) (subst (λ (c : Core). All (λ (g : Goal). HaveNoSolution g.rows) (goals c)) made.same none)
+-- where each goal of its core is refuted, by its own rows or by those after a front of its choices
+pub refuted_program_fair : (text : List ℕ) (p : PlainProgram) (c : Core) → IsProgramOf text p → IsCoreOf p c → All (IsRefuted c) (goals c) → EveryRunIsFair p
+refuted_program_fair text p c is made refuted =
+    every_fair p (core_formed text p c is made) (subst (λ (c : Core). All (IsRefuted c) (goals c)) made.same refuted)

@@ -1,29 +1,23 @@
 -- Where `verify`, `certify` or `demo` ends well, every run of its protocol is fair.
-use Rattle.std.proofs.Common.{◌≡◌, ◌∙◌, ap, sym, subst, ℕ, zero, suc, ◌+◌, List, [], ◌∷◌, ◌++◌, length, append-nil, Option, Some, None, refl, arith}
+use Rattle.std.proofs.Common.{◌≡◌, ◌∙◌, ap, sym, subst, ℕ, List, Option, Some, None, refl}
 use Rattle.std.specs.Prelude.{ℤ, IfSome, Bool, true, false, if◌then◌else◌}
 use Rattle.std.specs.List.{All}
 use Rattle.slice_io.specs.Files.{Files, file_of, IsFile}
 use Rattle.slice_ast.specs.Code.{PlainProgram}
 use Rattle.slice_parse.specs.Laws.{IsProgramOf}
-use Rattle.slice_linear.specs.Rows.{HaveNoSolution}
-use Rattle.slice_linear.proofs.Motzkin.{refuted_rows_have_no_solution}
 use Rattle.slice_core.specs.Tree.{Core}
-use Rattle.slice_paths.specs.Events.{events_of}
+use Rattle.slice_paths.specs.Events.{Event, NextGoal, Gives, NoMore, Overflows, OverLimit, next_goal}
 use Rattle.slice_paths.specs.Goals.{Goal, goals}
-use Rattle.slice_paths.specs.Coming.{AreGoals, goals_ahead}
-use Rattle.slice_paths.specs.declared.goal.GoalFault.{GoalFault}
-use Rattle.slice_paths.proofs.GoodRows.{coming_goals_fit}
-use Rattle.slice_simplex.specs.ProverAnswer.{RefutedBy, SolvedBy, AtLimit, Unfit}
-use Rattle.slice_simplex.proofs.EndFacts.{multipliers_refute}
-use Rattle.slice_paths.proofs.ComingLaws.{goals_come_first}
-use Rattle.slice_check.specs.Certificate.{claim_on, NoneSolved}
+use Rattle.slice_paths.specs.RunLaws.{IsRefuted}
+use Rattle.slice_simplex.specs.ProverAnswer.{ProverAnswer, RefutedBy, SolvedBy, AtLimit, Unfit}
 use Rattle.slice_check.specs.declared.answer.CertAnswer.{CertAnswer}
 use Rattle.slice_check.specs.declared.answer.CertAnswer.TheVariants.{Accepted, Rejected}
+use Rattle.slice_check.proofs.Refuted.{certified_goals_are_refuted, lines_refuted}
 use Rattle.slice_gen.specs.Rounds.{rounds_text}
 use Rattle.slice_report.specs.declared.refusal.Refusal.{Refusal}
 use Rattle.slice_report.specs.declared.refusal.Refusal.TheVariants.{Usage, ReadFault}
 use Rattle.slice_report.specs.declared.refusal.Refusal.TheVariants as refusal
-use Rattle.slice_top.specs.Answers.{Answer, Stage, stops, goes, refused, OfText, WithCore, IsAnswer, Counters, low, high, Closes, DecidesAll, IsVerifyAnswer, IsCertifyAnswer, AfterReport, IsDemoAnswer}
+use Rattle.slice_top.specs.Answers.{Answer, Stage, stops, goes, refused, OfText, WithCore, IsAnswer, Counters, low, high, Closes, ClosesAt, IsVerifyAnswer, IsCertifyAnswer, AfterReport, IsDemoAnswer}
 use Rattle.slice_top.specs.Certificates.{ChecksFile, checked_status}
 use Rattle.slice_top.specs.Commands.{Command, check, print, paths, verify, run, replay, certify, demo}
 use Rattle.slice_top.specs.Cores.{IsCoreOf, RefusesCore}
@@ -32,26 +26,14 @@ use Rattle.slice_top.specs.Reports.{Whole, answered, unread, starved, Report, wh
 use Rattle.slice_top.specs.Statuses.{is_limit, refused_status}
 use Rattle.slice_top.specs.declared.status.Status.{Status}
 use Rattle.slice_top.specs.declared.status.Status.TheVariants as status
-use Rattle.slice_check.proofs.Exclusive.{certified_goals_have_no_solution}
-use Rattle.slice_top.proofs.Fair.{unsolved_fair}
+use Rattle.slice_top.proofs.Fair.{refuted_program_fair}
+use Rattle.slice_top.proofs.Taking.{all_taken}
 
 -- ---- goals
 
-none_solved : (gs : List Goal) → NoneSolved gs → All (λ (g : Goal). HaveNoSolution g.rows) gs
-none_solved [] h k d l = absurd (omega (arith, l))
-none_solved (g ∷ gs) h zero d l = h.0
-none_solved (g ∷ gs) h (suc k) d l = none_solved gs h.1 k d (omega (arith, l))
-
--- none of the goals that a stream gives of the core has rows with a solution, and it gives all
-abbrev HasNoSolvedGoal : Core → Type 0
-HasNoSolvedGoal core = NoneSolved (claim_on core).goals × ((claim_on core).fault ≡ None)
-
-pub unsolved_core_fair : (text : List ℕ) (p : PlainProgram) (core : Core) → IsProgramOf text p → IsCoreOf p core → HasNoSolvedGoal core → EveryRunIsFair p
-unsolved_core_fair text p core is made none =
-    let first = goals_come_first core in
-    let given = goals_ahead (events_of core) 0 in
-    let all : goals core ≡ given = first.are ∙ ap (λ gs. given ++ gs) (first.all none.1) ∙ append-nil given in
-    unsolved_fair text p core is made (subst (λ (gs : List Goal). All (λ (g : Goal). HaveNoSolution g.rows) gs) (sym all) (none_solved given none.0))
+-- each goal of the core is refuted, by its own rows or by those after a front of its choices
+abbrev AreRefuted : Core → Type 0
+AreRefuted core = All (IsRefuted core) (goals core)
 
 -- ---- answers
 
@@ -74,13 +56,13 @@ there_is (Some other) bytes h = ap Some (sym h)
 -- ---- certificates
 
 -- one that is accepted
-accepted : (files : Files) (c : List ℕ) (core : Core) (x : CertAnswer) (o : Option (List ℕ)) → file_of c files ≡ o → ChecksFile (Some files) c core x → checked_status x ≡ status.Good → HasNoSolvedGoal core
+accepted : (files : Files) (c : List ℕ) (core : Core) (x : CertAnswer) (o : Option (List ℕ)) → file_of c files ≡ o → ChecksFile (Some files) c core x → checked_status x ≡ status.Good → AreRefuted core
 accepted files c core x None e h good = absurd (h.there (ap Some e))
 accepted files c core (Accepted n) (Some bytes) e h good =
-    let says = h.says bytes (ap Some e) in (certified_goals_have_no_solution (claim_on core) bytes says.0, says.1)
+    certified_goals_are_refuted core bytes (h.says bytes (ap Some e)).0
 accepted files c core (Rejected r) (Some bytes) e h good = absurd cc
 
-certified : (files : Files) (c : List ℕ) (core : Core) (a : Answer) → IsCertifyAnswer (Some files) c core a → a.status ≡ status.Good → HasNoSolvedGoal core
+certified : (files : Files) (c : List ℕ) (core : Core) (a : Answer) → IsCertifyAnswer (Some files) c core a → a.status ≡ status.Good → AreRefuted core
 certified files c core a (stops r h e) good = absurd (refused_not_good r a e good)
 certified files c core a (goes x h e) good = accepted files c core x (file_of c files) refl h (sym (ap (λ (b : Answer). b.status) e) ∙ good)
 
@@ -90,22 +72,23 @@ pub not_countered : (core : Core) (g : Goal) (xs : List ℤ) (a : Answer) → Co
 not_countered core g xs a (low l e) good = let bad : status.Negative ≡ status.Good = sym (ap (λ (b : Answer). b.status) e) ∙ good in cc
 not_countered core g xs a (high agent atom l e) good = refused_not_good (refusal.HeightLimit g.number agent atom) a e good
 
-closed : (n : ℕ) (f : Option GoalFault) (a : Answer) → Closes n f a → a.status ≡ status.Good → f ≡ None
-closed n None a h good = refl
-closed n (Some f) a h good = absurd (refused_not_good h.0 a h.1.1 good)
+-- only the closing line ends a report well
+not_good_at : (core : Core) (n : ℕ) (g : Goal) (later : List Event) (a : Answer) (p : ProverAnswer) → ClosesAt core n g later p a → a.status ≡ status.Good → ⊥
+not_good_at core n g later a (RefutedBy m) c good = refusal_not_good refusal.GoalLimit (sym (ap (λ (x : Answer). x.status) c.4) ∙ good)
+not_good_at core n g later a (SolvedBy xs) c good = not_countered core g xs a c good
+not_good_at core n g later a AtLimit e good = refused_not_good (refusal.PivotLimit n) a e good
+not_good_at core n g later a (Unfit pivots row col) e good = refused_not_good (refusal.ProverOverflow n pivots row col) a e good
 
-all_refuted : (core : Core) (n k : ℕ) (f : Option GoalFault) (gs : List Goal) (a : Answer) → AreGoals k gs → DecidesAll core n f gs a → a.status ≡ status.Good → NoneSolved gs × (f ≡ None)
-all_refuted core n k f [] a fit d good = (tt, closed n f a d good)
-all_refuted core n k f (g ∷ gs) a fit (RefutedBy m, (is, (b, (d, e)))) good =
-    let rest = all_refuted core n (k + 1) f gs b fit.3 d (sym (ap (λ (x : Answer). x.status) e) ∙ good) in
-    ((refuted_rows_have_no_solution g.rows m (multipliers_refute g.rows m fit.2 is.0), rest.0), rest.1)
-all_refuted core n k f (g ∷ gs) a fit (SolvedBy xs, (is, h)) good = absurd (not_countered core g xs a h good)
-all_refuted core n k f (g ∷ gs) a fit (AtLimit, (is, e)) good = absurd (refused_not_good (refusal.PivotLimit g.number) a e good)
-all_refuted core n k f (g ∷ gs) a fit (Unfit pivots row col, (is, e)) good = absurd (refused_not_good (refusal.ProverOverflow g.number pivots row col) a e good)
+pub closed_well : (core : Core) (n : ℕ) (x : NextGoal) (a : Answer) → Closes core n x a → a.status ≡ status.Good → x ≡ NoMore
+closed_well core n NoMore a c good = refl
+closed_well core n Overflows a e good = absurd (refused_not_good (refusal.FormOverflow n) a e good)
+closed_well core n OverLimit a e good = absurd (refused_not_good refusal.GoalLimit a e good)
+closed_well core n (Gives g later) a c good = absurd (not_good_at core n g later a c.0 c.2 good)
 
-pub verified : (core : Core) (a : Answer) → IsVerifyAnswer core a → a.status ≡ status.Good → HasNoSolvedGoal core
-verified core a (b, (d, e)) good =
-    all_refuted core (length (claim_on core).goals) 0 (claim_on core).fault (claim_on core).goals b (coming_goals_fit core) d (sym (ap (λ (x : Answer). x.status) e) ∙ good)
+pub verified : (core : Core) (a : Answer) → IsVerifyAnswer core a → a.status ≡ status.Good → AreRefuted core
+verified core a (ls, n, ahead, taken, b, c, e) good =
+    let none = closed_well core n (next_goal ahead n) b c (sym (ap (λ (x : Answer). x.status) e) ∙ good) in
+    lines_refuted core 2 0 ls (goals core) (all_taken core ls n ahead taken none).0
 
 -- ---- a report that is made and checked
 
@@ -113,15 +96,15 @@ after_good : (core : Core) (report : List ℕ) (s : Status) (a : Answer) → Aft
 after_good core report status.Good a h good = refl
 after_good core report s a e good = sym (ap (λ (x : Answer). x.status) e) ∙ good
 
-checked : (core : Core) (a : Answer) → IsDemoAnswer core a → a.status ≡ status.Good → HasNoSolvedGoal core
+checked : (core : Core) (a : Answer) → IsDemoAnswer core a → a.status ≡ status.Good → AreRefuted core
 checked core a (report, (is, after)) good = verified core report is (after_good core report.text report.status a after good)
 
 -- ---- stage by stage
 
-module _ (Next : Core → Answer → Type 0) (shows : (core : Core) (a : Answer) → Next core a → a.status ≡ status.Good → HasNoSolvedGoal core) where
+module _ (Next : Core → Answer → Type 0) (shows : (core : Core) (a : Answer) → Next core a → a.status ≡ status.Good → AreRefuted core) where
   of_program : (text : List ℕ) (p : PlainProgram) (a : Answer) → IsProgramOf text p → Stage (RefusesCore p) (IsCoreOf p) Next a → a.status ≡ status.Good → IsFairText text
   of_program text p a is (stops r h e) good = absurd (refused_not_good r a e good)
-  of_program text p a is (goes core made next) good = record { program = p; spelled = is.spelled; rules = made.rules; every = unsolved_core_fair text p core is made (shows core a next good) }
+  of_program text p a is (goes core made next) good = record { program = p; spelled = is.spelled; rules = made.rules; every = refuted_program_fair text p core is made (shows core a next good) }
 
   of_text : (text : List ℕ) (a : Answer) → OfText text Next a → a.status ≡ status.Good → IsFairText text
   of_text text a (stops r h e) good = absurd (refused_not_good r a e good)

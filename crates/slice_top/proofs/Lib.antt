@@ -14,3 +14,4 @@ pub mod MetRuns
 pub mod Outcomes
 pub mod SomeDecisions
 pub mod Stages
+pub mod Taking

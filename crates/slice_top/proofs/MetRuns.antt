@@ -1,7 +1,8 @@
 -- Where `verify` or `demo` ends with a counterexample, the run that it tells ends so.
-use Rattle.std.proofs.Common.{◌≡◌, ◌∙◌, ap, sym, subst, ℕ, ◌+◌, ◌<◌, List, [], ◌∷◌, ◌++◌, length, append_assoc, Option, Some, None, refl, arith}
+use Rattle.std.proofs.Common.{◌≡◌, ◌∙◌, ap, sym, subst, ℕ, ◌+◌, ◌<◌, List, [], ◌∷◌, ◌++◌, length, map, append_assoc, Option, Some, None, refl, arith}
 use Rattle.std.specs.Prelude.{ℤ, IfSome, Bool, true, false, if◌then◌else◌}
 use Rattle.std.specs.List.{All, Contains}
+use Rattle.slice_num.specs.Pieces.{joined}
 use Rattle.slice_num.specs.Valuation.{Valuation, IsSmall, IsValuationList}
 use Rattle.slice_num.specs.declared.cut_answer.CutAnswer.{CutAnswer}
 use Rattle.slice_num.specs.declared.choice.Side.TheVariants as side
@@ -16,24 +17,22 @@ use Rattle.slice_core.specs.Run.{Ending, Done, Stuck, Few, Bad, Many}
 use Rattle.slice_core.specs.Tree.{Core}
 use Rattle.slice_core.specs.WellFormed.{IsWellFormed}
 use Rattle.slice_linear.specs.Rows.{AreRowsOver, width}
-use Rattle.slice_paths.specs.Coming.{AreGoals}
+use Rattle.slice_paths.specs.Events.{Event, NextGoal, Gives, NoMore, Overflows, OverLimit, next_goal}
 use Rattle.slice_paths.specs.Goals.{Goal, goals}
 use Rattle.slice_paths.specs.RunLaws.{EndsAs}
 use Rattle.slice_paths.specs.Ways.{way_of}
-use Rattle.slice_paths.specs.declared.goal.GoalFault.{GoalFault}
 use Rattle.slice_paths.specs.declared.goal.GoalKind.{GoalKind}
 use Rattle.slice_paths.specs.declared.goal.GoalKind.TheVariants.{Low, High, Envy}
-use Rattle.slice_paths.proofs.GoodRows.{coming_goals_fit}
-use Rattle.slice_simplex.specs.ProverAnswer.{IsProverAnswer, RefutedBy, SolvedBy, AtLimit, Unfit}
+use Rattle.slice_simplex.specs.ProverAnswer.{ProverAnswer, IsProverAnswer, RefutedBy, SolvedBy, AtLimit, Unfit}
 use Rattle.slice_simplex.proofs.EndFacts.{solution_solves}
 use Rattle.serde_json.specs.Data.{Data}
 use Rattle.serde_json.specs.Written.{compact_text}
 use Rattle.slice_io.specs.Lines.{lines_of}
 use Rattle.slice_io.proofs.Gathering.{lines_joined}
 use Rattle.slice_json.proofs.LineEnds.{no_end_in_text}
-use Rattle.slice_cert.specs.CertLines.{line_json}
-use Rattle.slice_cert.specs.declared.line.Line.TheVariants.{Header, Refutation}
-use Rattle.slice_check.specs.Certificate.{claim_on}
+use Rattle.slice_cert.specs.CertLines.{line_json, line_text}
+use Rattle.slice_cert.specs.declared.line.Line.{Line}
+use Rattle.slice_cert.specs.declared.line.Line.TheVariants.{Header}
 use Rattle.slice_counter.specs.Counter.{IsLow, IsCounterexample, EndGoesTo, valuations_of, answers_of}
 use Rattle.slice_counter.specs.CounterLine.{counter_json}
 use Rattle.slice_counter.proofs.Counters.{solutions_give_counterexamples}
@@ -42,11 +41,11 @@ use Rattle.slice_expand.specs.Expansion.{core_of}
 use Rattle.slice_expand.specs.Kept.{without_trace}
 use Rattle.slice_gen.specs.Rounds.{rounds_text}
 use Rattle.slice_run.specs.RunLaws.{run_on as core_run_on}
-use Rattle.slice_verify.specs.Report.{pivot_limit}
+use Rattle.slice_verify.specs.Report.{pivot_limit, texts_after}
 use Rattle.slice_report.specs.declared.refusal.Refusal.{Refusal}
 use Rattle.slice_report.specs.declared.refusal.Refusal.TheVariants.{Usage, ReadFault}
 use Rattle.slice_report.specs.declared.refusal.Refusal.TheVariants as refusal
-use Rattle.slice_top.specs.Answers.{Answer, Stage, stops, goes, refused, OfText, WithCore, IsAnswer, low, high, Closes, DecidesAll, IsVerifyAnswer, counterexample_json, AfterReport, IsDemoAnswer}
+use Rattle.slice_top.specs.Answers.{Answer, Stage, stops, goes, refused, after_text, OfText, WithCore, IsAnswer, low, high, Closes, ClosesAt, IsVerifyAnswer, counterexample_json, AfterReport, IsDemoAnswer}
 use Rattle.slice_top.specs.Commands.{Command, check, print, paths, verify, run, replay, certify, demo}
 use Rattle.slice_top.specs.Cores.{IsCoreOf, RefusesCore}
 use Rattle.slice_top.specs.Demos.{last_line}
@@ -58,7 +57,8 @@ use Rattle.slice_top.specs.declared.status.Status.{Status}
 use Rattle.slice_top.specs.declared.status.Status.TheVariants as status
 use Rattle.slice_top.proofs.Good.{there_is}
 use Rattle.slice_top.proofs.LastLines.{line_behind_is_last}
-use Rattle.slice_top.proofs.SomeDecisions.{is_goal, long_solution}
+use Rattle.slice_top.proofs.SomeDecisions.{long_solution}
+use Rattle.slice_top.proofs.Taking.{Stands, comes, took_first}
 use Rattle.slice_top.proofs.CoreRuns.{core_formed, kept}
 
 -- ---- how the run ends
@@ -111,52 +111,48 @@ pub record IsMet (core : Core) (text : List ℕ) : Type 0 where
   pub before : List (List ℕ)
   pub lines : (rest : List ℕ) → lines_of (out ++ rest) ≡ before ++ lines_of rest
 
-met_later : (core : Core) (d : Data) (rest text : List ℕ) → text ≡ line_of d ++ rest → IsMet core rest → IsMet core text
-met_later core d rest text e m = record {
-  g = m.g;
-  is_goal = m.is_goal;
-  few = m.few;
-  rows = m.rows;
-  xs = m.xs;
-  solved = m.solved;
-  small = m.small;
-  out = line_of d ++ m.out;
-  told = e ∙ ap (λ t. line_of d ++ t) m.told ∙ sym (append_assoc (line_of d) m.out (line_of (counterexample_json core m.g m.xs)));
-  before = compact_text d ∷ m.before;
-  lines = λ later. ap lines_of (append_assoc (line_of d) m.out later) ∙ lines_then d (m.out ++ later) ∙ ap (λ ls. compact_text d ∷ ls) (m.lines later);
-}
+-- the lines of a report, and of what follows them
+all_lines : (ls : List Line) (rest : List ℕ) → lines_of (joined (map line_text ls) ++ rest) ≡ map (λ (l : Line). compact_text (line_json l)) ls ++ lines_of rest
+all_lines [] rest = refl
+all_lines (l ∷ ls) rest =
+    let later = joined (map line_text ls) in
+    ap lines_of (append_assoc (line_text l) later rest) ∙ lines_then (line_json l) (later ++ rest) ∙ ap (λ ts. compact_text (line_json l) ∷ ts) (all_lines ls rest)
 
-no_close : (n : ℕ) (f : Option GoalFault) (a : Answer) → Closes n f a → a.status ≡ status.Negative → ⊥
-no_close n None a h negative = let bad : status.Good ≡ status.Negative = sym (ap (λ (x : Answer). x.status) h) ∙ negative in cc
-no_close n (Some f) a h negative = refused_not_negative h.0 a h.1.1 negative
+-- only a counterexample closes a report so
+module _ (core : Core) (ls : List Line) (n : ℕ) (ahead : List Event) (s : Stands core n ahead) (a b : Answer) (told : a ≡ after_text (joined (texts_after core ls)) b) where
+  met_at : (g : Goal) (later : List Event) → next_goal ahead n ≡ Gives g later → (p : ProverAnswer) → IsProverAnswer g.rows pivot_limit p → ClosesAt core n g later p b → b.status ≡ status.Negative → IsMet core a.text
+  met_at g later e (RefutedBy m) is c negative = absurd (refusal_not_negative refusal.GoalLimit (sym (ap (λ (x : Answer). x.status) c.4) ∙ negative))
+  met_at g later e (SolvedBy xs) is (low small line) negative =
+      let c = comes core n ahead g later s e in
+      let before : List Line = Header 2 core.name core.agents ∷ ls in
+      let number = c.first.number in
+      let few = c.first.few in
+      record {
+        g = g;
+        is_goal = c.is_goal;
+        few = omega (arith, number, few);
+        rows = c.rows;
+        xs = xs;
+        solved = is;
+        small = small;
+        out = joined (texts_after core ls);
+        told = ap (λ (x : Answer). x.text) told ∙ ap (λ (x : Answer). joined (texts_after core ls) ++ x.text) line;
+        before = map (λ (l : Line). compact_text (line_json l)) before;
+        lines = all_lines before;
+      }
+  met_at g later e (SolvedBy xs) is (high agent atom h line) negative = absurd (refused_not_negative (refusal.HeightLimit g.number agent atom) b line negative)
+  met_at g later e AtLimit is c negative = absurd (refused_not_negative (refusal.PivotLimit n) b c negative)
+  met_at g later e (Unfit pivots row col) is c negative = absurd (refused_not_negative (refusal.ProverOverflow n pivots row col) b c negative)
 
-met_from : (core : Core) (n k : ℕ) (f : Option GoalFault) (before gs : List Goal) (a : Answer) → before ++ gs ≡ (claim_on core).goals → AreGoals k gs → DecidesAll core n f gs a → a.status ≡ status.Negative → IsMet core a.text
-met_from core n k f before [] a split fit d negative = absurd (no_close n f a d negative)
-met_from core n k f before (g ∷ gs) a split fit (RefutedBy m, (is, (b, (d, e)))) negative =
-    met_later core (line_json (Refutation g.number m)) b.text a.text (ap (λ (x : Answer). x.text) e)
-    (met_from core n (k + 1) f (before ++ g ∷ []) gs b (append_assoc before (g ∷ []) gs ∙ split) fit.3 d (sym (ap (λ (x : Answer). x.status) e) ∙ negative))
-met_from core n k f before (g ∷ gs) a split fit (SolvedBy xs, (is, low small e)) negative =
-    record {
-      g = g;
-      is_goal = is_goal core before gs g split;
-      few = omega (arith, fit.0, fit.1);
-      rows = fit.2;
-      xs = xs;
-      solved = is;
-      small = small;
-      out = [];
-      told = ap (λ (x : Answer). x.text) e;
-      before = [];
-      lines = λ rest. refl;
-    }
-met_from core n k f before (g ∷ gs) a split fit (SolvedBy xs, (is, high agent atom h e)) negative = absurd (refused_not_negative (refusal.HeightLimit g.number agent atom) a e negative)
-met_from core n k f before (g ∷ gs) a split fit (AtLimit, (is, e)) negative = absurd (refused_not_negative (refusal.PivotLimit g.number) a e negative)
-met_from core n k f before (g ∷ gs) a split fit (Unfit pivots row col, (is, e)) negative = absurd (refused_not_negative (refusal.ProverOverflow g.number pivots row col) a e negative)
+  met_next : (x : NextGoal) → next_goal ahead n ≡ x → Closes core n x b → b.status ≡ status.Negative → IsMet core a.text
+  met_next NoMore e c negative = absurd (let bad : status.Good ≡ status.Negative = sym (ap (λ (x : Answer). x.status) c) ∙ negative in cc)
+  met_next Overflows e c negative = absurd (refused_not_negative (refusal.FormOverflow n) b c negative)
+  met_next OverLimit e c negative = absurd (refused_not_negative refusal.GoalLimit b c negative)
+  met_next (Gives g later) e c negative = met_at g later e c.0 c.1 c.2 negative
 
 pub met : (core : Core) (a : Answer) → IsVerifyAnswer core a → a.status ≡ status.Negative → IsMet core a.text
-met core a (b, (d, e)) negative =
-    met_later core (line_json (Header 1 core.name core.agents)) b.text a.text (ap (λ (x : Answer). x.text) e)
-    (met_from core (length (claim_on core).goals) 0 (claim_on core).fault [] (claim_on core).goals b refl (coming_goals_fit core) d (sym (ap (λ (x : Answer). x.status) e) ∙ negative))
+met core a (ls, n, ahead, taken, b, c, e) negative =
+    met_next core ls n ahead (took_first core ls n ahead taken).stands a b e (next_goal ahead n) refl c (sym (ap (λ (x : Answer). x.status) e) ∙ negative)
 
 -- ---- its run
 

@@ -1,39 +1,35 @@
--- The goals of a core have a decision, whatever was decided before.
-use Rattle.std.proofs.Common.{◌≡◌, ◌∙◌, ◌⊎◌, inl, inr, ℕ, zero, suc, ◌+◌, ◌-◌, ◌*◌, ◌/◌, ◌%◌, ◌<◌, ◌≤◌, ◌^◌, ◌≤ℤ◌, ◌<ℤ◌, ◌-ℤ◌, List, [], ◌∷◌, ◌++◌, length, ap, sym, subst, refl, arith, append_assoc, Option, Some, None, ℤ, pos}
+-- The goals of a core have a report, whatever lines it begins with.
+use Rattle.std.proofs.Common.{◌≡◌, ◌∙◌, ◌⊎◌, inl, inr, ℕ, zero, suc, ◌+◌, ◌-◌, ◌*◌, ◌/◌, ◌%◌, ◌<◌, ◌≤◌, ◌^◌, ◌≤ℤ◌, ◌<ℤ◌, ◌-ℤ◌, List, [], ◌∷◌, length, drop, ap, sym, subst, refl, arith, ℤ, pos}
 use Rattle.std.specs.List.{All, Contains}
 use Rattle.std.proofs.Math.Nat.{div-add-mod, mod-lt, mul_comm}
 use Rattle.std.proofs.lemmas.Bool.{cases_lt}
-use Rattle.std.proofs.lemmas.List.{get_or_default}
-use Rattle.std.proofs.lemmas.List.Elements.{Contains-append_left, Contains-append_right}
+use Rattle.std.proofs.lemmas.List.{get_or_default, length-drop}
+use Rattle.slice_num.specs.Pieces.{joined}
 use Rattle.slice_linear.proofs.Ring.{linear, sign}
 use Rattle.slice_linear.specs.Sums.{at}
 use Rattle.slice_linear.specs.Rows.{LinearRow, AreRowsOver, width}
 use Rattle.slice_core.specs.Tree.{Core}
 use Rattle.slice_atoms.specs.Addresses.{Cake, Atom, Halves, atom_count}
-use Rattle.slice_paths.specs.Coming.{AreGoals}
-use Rattle.slice_paths.specs.Events.{events_of}
+use Rattle.slice_paths.specs.Events.{Event, NextGoal, Gives, NoMore, Overflows, OverLimit, events_of, goal_limit, next_goal}
 use Rattle.slice_paths.specs.Goals.{Goal, goals}
 use Rattle.slice_paths.specs.Ways.{way_of}
-use Rattle.slice_paths.specs.declared.goal.GoalFault.{GoalFault}
-use Rattle.slice_paths.specs.declared.goal.GoalFault.TheVariants as goal_fault
-use Rattle.slice_paths.proofs.ComingLaws.{goals_come_first}
 use Rattle.slice_paths.proofs.GoalLaws.{rows_over_unknowns}
-use Rattle.slice_paths.proofs.GoodRows.{coming_goals_fit}
 use Rattle.slice_simplex.specs.ProverAnswer.{ProverAnswer, IsProverAnswer, RefutedBy, SolvedBy, AtLimit, Unfit}
-use Rattle.slice_simplex.proofs.EndFacts.{solution_solves}
+use Rattle.slice_simplex.proofs.EndFacts.{multipliers_refute, solution_solves}
 use Rattle.slice_simplex.proofs.SomeAnswer.{answer_exists}
-use Rattle.slice_cert.specs.declared.line.Line.TheVariants.{Refutation, Closing}
+use Rattle.slice_cert.specs.declared.line.Line.{Line}
+use Rattle.slice_cert.specs.declared.line.Line.TheVariants.{Closing}
 use Rattle.slice_cert.specs.CertLines.{line_text}
-use Rattle.slice_check.specs.Certificate.{claim_on}
-use Rattle.slice_check.proofs.SomeStop.{fault_not_memory}
+use Rattle.slice_cert.specs.ShortForms.{short_line}
 use Rattle.slice_counter.specs.Counter.{IsLow}
 use Rattle.slice_counter.specs.Heights.{IsFirstHigh}
 use Rattle.slice_counter.specs.declared.counter.CounterFault.TheVariants.{HeightLimit}
 use Rattle.slice_counter.proofs.HeightLaws.{fault_is}
-use Rattle.slice_verify.specs.Report.{pivot_limit}
+use Rattle.slice_verify.specs.Report.{AreTaken, IsTaken, LeadsTo, pivot_limit, texts_after}
 use Rattle.slice_report.specs.declared.refusal.Refusal.TheVariants as refusal
-use Rattle.slice_top.specs.Answers.{Answer, answer_of, one_line, after_text, refused, Counters, low, high, Closes, DecidesAll, counterexample_json}
+use Rattle.slice_top.specs.Answers.{Answer, answer_of, one_line, after_text, refused, Counters, low, high, Closes, IsVerifyAnswer, counterexample_json}
 use Rattle.slice_top.specs.declared.status.Status.TheVariants as status
+use Rattle.slice_top.proofs.Taking.{Stands, comes, short_leads, stands_first}
 
 -- ---- heights
 
@@ -108,39 +104,85 @@ countered core g xs is rows solved =
           )
     ]
 
--- ---- goals
+-- ---- the rest of a report
 
-closes : (n : ℕ) (f : Option GoalFault) → (f ≡ Some goal_fault.Memory → ⊥) → (b : Answer) × Closes n f b
-closes n None h = (answer_of (line_text (Closing n)) status.Good, refl)
-closes n (Some goal_fault.GoalLimit) h = (refused refusal.GoalLimit, (refusal.GoalLimit, (refl, refl)))
-closes n (Some (goal_fault.Overflow goal)) h = (refused (refusal.FormOverflow goal), (refusal.FormOverflow goal, (refl, refl)))
-closes n (Some goal_fault.Memory) h = absurd (h refl)
+-- further lines, behind those that take n goals, and what closes the report
+pub record Rest (core : Core) (n : ℕ) (ahead : List Event) : Type 0 where
+  pub lines : List Line
+  pub goals : ℕ
+  pub later : List Event
+  pub taken : AreTaken core n ahead lines goals later
+  pub answer : Answer
+  pub closes : Closes core goals (next_goal later goals) answer
 
 module _ (core : Core) where
-  pub is_goal : (before after : List Goal) (g : Goal) → before ++ g ∷ after ≡ (claim_on core).goals → Contains (goals core) g
-  is_goal before after g split =
-      let come = goals_come_first core in
-      let made : Contains (claim_on core).goals g = subst (λ (gs : List Goal). Contains gs g) split (Contains-append_right before (g ∷ after) g (0, omega arith, refl)) in
-      subst (λ (gs : List Goal). Contains gs g) (sym come.are) (Contains-append_left (claim_on core).goals come.rest g made)
+  closed : (n : ℕ) (ahead : List Event) (x : NextGoal) (a : Answer) → next_goal ahead n ≡ x → Closes core n x a → Rest core n ahead
+  closed n ahead x a e c = record {
+    lines = [];
+    goals = n;
+    later = ahead;
+    taken = (refl, refl);
+    answer = a;
+    closes = subst (λ (y : NextGoal). Closes core n y a) (sym e) c;
+  }
 
-  decided_from : (n k : ℕ) (f : Option GoalFault) (before later : List Goal) → before ++ later ≡ (claim_on core).goals → AreGoals k later → (f ≡ Some goal_fault.Memory → ⊥) → (b : Answer) × DecidesAll core n f later b
-  decided_from n k f before [] split gs h = closes n f h
-  decided_from n k f before (g ∷ later) split gs h =
-      by (answer_exists g.rows pivot_limit).0 (answer_exists g.rows pivot_limit).1
-      (decided_from n (k + 1) f (before ++ g ∷ []) later (append_assoc before (g ∷ []) later ∙ split) gs.3 h)
-    where
-      by : (p : ProverAnswer) → IsProverAnswer g.rows pivot_limit p → (b : Answer) × DecidesAll core n f later b → (a : Answer) × DecidesAll core n f (g ∷ later) a
-      by (RefutedBy m) is rest = (after_text (line_text (Refutation g.number m)) rest.0, (RefutedBy m, (is, (rest.0, (rest.1, refl)))))
-      by (SolvedBy xs) is rest = let c = countered core g xs (is_goal before later g split) gs.2 is in (c.0, (SolvedBy xs, (is, c.1)))
-      by AtLimit is rest = (refused (refusal.PivotLimit g.number), (AtLimit, (is, refl)))
-      by (Unfit pivots row col) is rest = (refused (refusal.ProverOverflow g.number pivots row col), (Unfit pivots row col, (is, refl)))
+  one_more : (n : ℕ) (ahead : List Event) (l : Line) (t : IsTaken core n ahead l) (m : ℕ) (mid : List Event) → LeadsTo core n t.goal t.later l m mid → m ≤ goal_limit → Rest core m mid → Rest core n ahead
+  one_more n ahead l t m mid leads few r = record {
+    lines = l ∷ r.lines;
+    goals = r.goals;
+    later = r.later;
+    taken = (t, m, mid, leads, few, r.taken);
+    answer = r.answer;
+    closes = r.closes;
+  }
 
-  later_goals : (k : ℕ) (before later : List Goal) → AreGoals k (before ++ later) → AreGoals (k + length before) later
-  later_goals k [] later gs = subst (λ n. AreGoals n later) (omega arith) gs
-  later_goals k (g ∷ before) later gs = subst (λ n. AreGoals n later) (omega arith) (later_goals (k + 1) before later gs.3)
+  -- where fewer goals are left there is one
+  abbrev Goes : ℕ → Type 0
+  Goes n = (m : ℕ) (mid : List Event) → length (drop m (goals core)) < length (drop n (goals core)) → Stands core m mid → Rest core m mid
 
-  -- those that are left have a decision
-  pub some_end : (before later : List Goal) → before ++ later ≡ (claim_on core).goals → (b : Answer) × DecidesAll core (length (claim_on core).goals) (claim_on core).fault later b
-  some_end before later split =
-      decided_from (length (claim_on core).goals) (0 + length before) (claim_on core).fault before later split
-      (later_goals 0 before later (subst (AreGoals 0) (sym split) (coming_goals_fit core))) (fault_not_memory (events_of core) 0)
+  module _ (n : ℕ) (ahead : List Event) (s : Stands core n ahead) (goes : Goes n) where
+    -- the goal is refuted: the rest goes on behind its line, unless that covers too many goals
+    refuted : (g : Goal) (later : List Event) → next_goal ahead n ≡ Gives g later → (m : List ℤ) → IsProverAnswer g.rows pivot_limit (RefutedBy m) → Rest core n ahead
+    refuted g later e m is =
+        let c = comes core n ahead g later s e in
+        let l : Line = short_line core.agents n m in
+        let refutes = multipliers_refute g.rows m c.rows is.0 in
+        let t : IsTaken core n ahead l = record { goal = g; later = later; comes = e; multipliers = m; refuted = record { ends = is; refutes = refutes }; line = refl } in
+        let x = short_leads core n g later m c refutes in
+        let one = x.some in
+        let within = x.within in
+        let left = length-drop n (goals core) in
+        let fewer = length-drop (n + x.count) (goals core) in
+        elim (cases_lt goal_limit (n + x.count)) [
+          | inl past ↦ closed n ahead (Gives g later) (after_text (line_text l) (refused refusal.GoalLimit)) e (RefutedBy m, is, (n + x.count, x.ahead, x.leads, past, refl))
+          | inr few ↦ one_more n ahead l t (n + x.count) x.ahead x.leads few (goes (n + x.count) x.ahead (omega (arith, one, within, left, fewer)) x.stands)
+        ]
+
+    answered : (g : Goal) (later : List Event) → next_goal ahead n ≡ Gives g later → (p : ProverAnswer) → IsProverAnswer g.rows pivot_limit p → Rest core n ahead
+    answered g later e (RefutedBy m) is = refuted g later e m is
+    answered g later e (SolvedBy xs) is =
+        let c = comes core n ahead g later s e in
+        let a = countered core g xs c.is_goal c.rows is in
+        closed n ahead (Gives g later) a.0 e (SolvedBy xs, is, a.1)
+    answered g later e AtLimit is = closed n ahead (Gives g later) (refused (refusal.PivotLimit n)) e (AtLimit, is, refl)
+    answered g later e (Unfit pivots row col) is = closed n ahead (Gives g later) (refused (refusal.ProverOverflow n pivots row col)) e (Unfit pivots row col, is, refl)
+
+    rest_of : (x : NextGoal) → next_goal ahead n ≡ x → Rest core n ahead
+    rest_of NoMore e = closed n ahead NoMore (answer_of (line_text (Closing n)) status.Good) e refl
+    rest_of Overflows e = closed n ahead Overflows (refused (refusal.FormOverflow n)) e refl
+    rest_of OverLimit e = closed n ahead OverLimit (refused refusal.GoalLimit) e refl
+    rest_of (Gives g later) e = answered g later e (answer_exists g.rows pivot_limit).0 (answer_exists g.rows pivot_limit).1
+
+  -- by the number of goals that are left
+  rest_by : (left n : ℕ) (ahead : List Event) → length (drop n (goals core)) ≤ left → Stands core n ahead → Rest core n ahead
+  rest_by zero n ahead few s = rest_of n ahead s (λ m mid fewer t. absurd (omega (arith, few, fewer))) (next_goal ahead n) refl
+  rest_by (suc left) n ahead few s = rest_of n ahead s (λ m mid fewer t. rest_by left m mid (omega (arith, few, fewer)) t) (next_goal ahead n) refl
+
+  pub some_rest : (n : ℕ) (ahead : List Event) → Stands core n ahead → Rest core n ahead
+  some_rest n ahead s = rest_by (length (drop n (goals core))) n ahead (omega arith) s
+
+  -- a report
+  pub some_verified : (a : Answer) × IsVerifyAnswer core a
+  some_verified =
+      let r = some_rest 0 (events_of core) (stands_first core) in
+      (after_text (joined (texts_after core r.lines)) r.answer, (r.lines, r.goals, r.later, r.taken, r.answer, r.closes, refl))

@@ -1,8 +1,9 @@
 -- What is answered to a command over files, faults of devices and want of memory aside: by stages, in the order of refusals.
 -- Of a shelf that tells no files it is said for some bytes of each file, and of a certificate nothing but the form of its line.
-use Rattle.std.specs.Prelude.{◌≡◌, ℕ, ◌+◌, nat_lt, if◌then◌else◌, ℤ, List, [], ◌∷◌, ◌++◌, length, Option, Some, None}
+use Rattle.std.specs.Prelude.{◌≡◌, ℕ, ◌+◌, ◌<◌, nat_lt, if◌then◌else◌, ℤ, List, [], ◌∷◌, ◌++◌, length, Option, Some, None}
 use Rattle.serde_json.specs.Data.{Data}
 use Rattle.slice_json.specs.Texts.{line_of}
+use Rattle.slice_num.specs.Pieces.{joined}
 use Rattle.slice_num.specs.Valuation.{Valuation}
 use Rattle.slice_num.specs.declared.cut_answer.CutAnswer.{CutAnswer}
 use Rattle.slice_io.specs.Files.{Files}
@@ -13,18 +14,19 @@ use Rattle.slice_core.specs.Tree.{Core}
 use Rattle.slice_step.specs.ValuationFile.{IsValuationFile, IsReplayFile}
 use Rattle.slice_run.specs.Walk.{Told, Walked, Good, outcome, Least, Given}
 use Rattle.slice_atoms.specs.Addresses.{atom_count}
-use Rattle.slice_paths.specs.Events.{Event, Meets, Breaks, events_of, goal_at, goal_limit}
+use Rattle.slice_paths.specs.Events.{Event, Meets, Breaks, NextGoal, events_of, goal_at, goal_limit, next_goal}
+use Rattle.slice_paths.specs.Events as comes
 use Rattle.slice_paths.specs.Goals.{Goal}
 use Rattle.slice_paths.specs.Ways.{way_of}
-use Rattle.slice_paths.specs.declared.goal.GoalFault.{GoalFault}
 use Rattle.slice_simplex.specs.ProverAnswer.{ProverAnswer, IsProverAnswer, RefutedBy, SolvedBy, AtLimit, Unfit}
 use Rattle.slice_cert.specs.CertLines.{line_text}
-use Rattle.slice_cert.specs.declared.line.Line.TheVariants.{Header, Refutation, Closing}
-use Rattle.slice_check.specs.Certificate.{claim_on}
+use Rattle.slice_cert.specs.declared.line.Line.{Line}
+use Rattle.slice_cert.specs.declared.line.Line.TheVariants.{Closing}
+use Rattle.slice_cert.specs.ShortForms.{short_line}
 use Rattle.slice_counter.specs.Counter.{IsLow, valuations_of, answers_of}
 use Rattle.slice_counter.specs.CounterLine.{counter_json}
 use Rattle.slice_counter.specs.Heights.{IsFirstHigh}
-use Rattle.slice_verify.specs.Report.{pivot_limit}
+use Rattle.slice_verify.specs.Report.{LeadsTo, TakeFirst, pivot_limit, texts_after}
 use Rattle.slice_gen.specs.Rounds.{rounds_text}
 use Rattle.slice_check.specs.declared.answer.CertAnswer.{CertAnswer}
 use Rattle.slice_report.specs.CertifyReport.{certify_json}
@@ -40,7 +42,6 @@ use Rattle.slice_top.specs.Commands.{Command, check, print, paths, verify, run, 
 use Rattle.slice_top.specs.Demos.{AcceptsReport, RefusesReport, last_line}
 use Rattle.slice_top.specs.Statuses.{refused_status}
 use Rattle.slice_top.specs.FilesRead.{IsFileOf, RefusesFile}
-use Rattle.slice_top.specs.Goals.{goal_refusal}
 use Rattle.slice_top.specs.Programs.{RefusesText}
 use Rattle.slice_top.specs.Cores.{IsCoreOf, RefusesCore}
 use Rattle.slice_top.specs.Values.{RefusesValues, RefusesReplay}
@@ -124,27 +125,28 @@ pub data Counters (core : Core) (g : Goal) (xs : List ℤ) (a : Answer) : Type 0
   low : IsLow xs → a ≡ one_line (counterexample_json core g xs) status.Negative → Counters core g xs a
   high : (agent atom : ℕ) → IsFirstHigh core.agents (atom_count (way_of core g.trace).cake) xs agent atom → a ≡ refused (HeightLimit g.number agent atom) → Counters core g xs a
 
--- what follows the prover's answer on a goal: where its rows are refuted, its line and then the rest of the answer
-abbrev pub Follows : Core → Goal → (Answer → Type 0) → ProverAnswer → Answer → Type 0
-Follows core g Next (RefutedBy m) a = (b : Answer) × (Next b × (a ≡ after_text (line_text (Refutation g.number m)) b))
-Follows core g Next (SolvedBy xs) a = Counters core g xs a
-Follows core g Next AtLimit a = a ≡ refused (PivotLimit g.number)
-Follows core g Next (Unfit pivots row col) a = a ≡ refused (ProverOverflow g.number pivots row col)
+-- what closes a report at goal n, by the prover's answer on it: it is refuted, and its line is out, but covers more goals than
+-- may be given; it is met by a counterexample; or it isn't decided
+abbrev pub ClosesAt : Core → ℕ → Goal → List Event → ProverAnswer → Answer → Type 0
+ClosesAt core n g later (RefutedBy m) a =
+    (k : ℕ) × (mid : List Event) × LeadsTo core n g later (short_line core.agents n m) k mid × (goal_limit < k) × (a ≡ after_text (line_text (short_line core.agents n m)) (refused GoalLimit))
+ClosesAt core n g later (SolvedBy xs) a = Counters core g xs a
+ClosesAt core n g later AtLimit a = a ≡ refused (PivotLimit n)
+ClosesAt core n g later (Unfit pivots row col) a = a ≡ refused (ProverOverflow n pivots row col)
 
--- after the last goal, of so many: the closing line, or why no further goal is given
-abbrev pub Closes : ℕ → Option GoalFault → Answer → Type 0
-Closes n None a = a ≡ answer_of (line_text (Closing n)) status.Good
-Closes n (Some f) a = (r : Refusal) × ((goal_refusal f ≡ Some r) × (a ≡ refused r))
+-- what closes a report after lines that take n goals, by what comes next: the closing line; why no further goal is made; or
+-- the goal, with the prover's answer on it
+abbrev pub Closes : Core → ℕ → NextGoal → Answer → Type 0
+Closes core n comes.NoMore a = a ≡ answer_of (line_text (Closing n)) status.Good
+Closes core n comes.Overflows a = a ≡ refused (FormOverflow n)
+Closes core n comes.OverLimit a = a ≡ refused GoalLimit
+Closes core n (comes.Gives g later) a = (p : ProverAnswer) × IsProverAnswer g.rows pivot_limit p × ClosesAt core n g later p a
 
--- the goals are decided in their order, up to the first that isn't refuted
-abbrev pub DecidesAll : Core → ℕ → Option GoalFault → List Goal → Answer → Type 0
-DecidesAll core n fault [] a = Closes n fault a
-DecidesAll core n fault (g ∷ gs) a = (p : ProverAnswer) × (IsProverAnswer g.rows pivot_limit p × Follows core g (DecidesAll core n fault gs) p a)
-
--- `verify F`: the header, and then the goals of the core
+-- `verify F`: the header, a line for each goal in order that no line took before, and what closes the report
 abbrev pub IsVerifyAnswer : Core → Answer → Type 0
 IsVerifyAnswer core a =
-    (b : Answer) × (DecidesAll core (length (claim_on core).goals) (claim_on core).fault (claim_on core).goals b × (a ≡ after_text (line_text (Header 1 core.name core.agents)) b))
+    (ls : List Line) × (n : ℕ) × (ahead : List Event) × TakeFirst core ls n ahead
+    × (b : Answer) × Closes core n (next_goal ahead n) b × (a ≡ after_text (joined (texts_after core ls)) b)
 
 -- what is told of the run, or why it was given up
 abbrev pub IsOutcome : Walked Told → Answer → Type 0

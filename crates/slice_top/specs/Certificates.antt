@@ -3,7 +3,6 @@ use Rattle.std.specs.Prelude.{◌≡◌, ◌≢◌, ℕ, ⊤, List, Option, Some
 use Rattle.std.specs.Str.{IsUtf8}
 use Rattle.slice_io.specs.Files.{Files, told_file}
 use Rattle.slice_core.specs.Tree.{Core}
-use Rattle.slice_check.specs.Certificate.{claim_on}
 use Rattle.slice_check.specs.Faults.{Fails, IsAnswer}
 use Rattle.slice_check.specs.declared.answer.CertAnswer.{CertAnswer}
 use Rattle.slice_check.specs.declared.answer.CertAnswer.TheVariants.{Accepted, Rejected}
@@ -24,7 +23,7 @@ pub record SaysOfFile (told : Option Files) (name : List ℕ) (Says : List ℕ �
 
 -- what the checker says of the certificate in a file, for a core
 abbrev pub ChecksFile : Option Files → List ℕ → Core → CertAnswer → Type 0
-ChecksFile told name core x = SaysOfFile told name (λ bytes. IsAnswer (claim_on core) bytes x)
+ChecksFile told name core x = SaysOfFile told name (λ bytes. IsAnswer core bytes x)
 
 -- the refusal for the checker's fault on the file of that name; a failed read and want of memory are none
 abbrev pub checker_refusal : List ℕ → CertFault → Option Refusal
@@ -38,7 +37,7 @@ checker_refusal name fault.Memory = None
 -- no file of that name is there, or the checker gives it up
 pub data RefusesCertificate (told : Option Files) (name : List ℕ) (core : Core) (r : Refusal) : Type 0 where
   missing : told_file told name ≡ Some None → r ≡ ReadFault name → RefusesCertificate told name core r
-  given_up : (f : CertFault) → checker_refusal name f ≡ Some r → SaysOfFile told name (λ bytes. Fails (claim_on core) bytes f) → RefusesCertificate told name core r
+  given_up : (f : CertFault) → checker_refusal name f ≡ Some r → SaysOfFile told name (λ bytes. Fails core bytes f) → RefusesCertificate told name core r
 
 -- good where the certificate is accepted
 abbrev pub checked_status : CertAnswer → Status

@@ -2,7 +2,6 @@
 use Rattle.std.specs.Prelude.{◌≡◌, ℕ, List, [], ◌∷◌, ◌++◌, codes, Some}
 use Rattle.slice_io.specs.Lines.{lines_of}
 use Rattle.slice_core.specs.Tree.{Core}
-use Rattle.slice_check.specs.Certificate.{claim_on}
 use Rattle.slice_check.specs.Faults.{Fails, IsAnswer}
 use Rattle.slice_check.specs.declared.answer.CertAnswer.TheVariants.{Accepted}
 use Rattle.slice_check.specs.declared.answer.CertFault.{CertFault}
@@ -17,11 +16,11 @@ report_name = codes "report"
 
 -- the checker accepts the report on a core, for so many goals
 abbrev pub AcceptsReport : Core → List ℕ → ℕ → Type 0
-AcceptsReport core report n = IsAnswer (claim_on core) report (Accepted n)
+AcceptsReport core report n = IsAnswer core report (Accepted n)
 
 -- the checker gives the report up: it is too long, a goal isn't given, or a number doesn't fit
 abbrev pub RefusesReport : Core → List ℕ → Refusal → Type 0
-RefusesReport core report r = (f : CertFault) × ((checker_refusal report_name f ≡ Some r) × Fails (claim_on core) report f)
+RefusesReport core report r = (f : CertFault) × ((checker_refusal report_name f ≡ Some r) × Fails core report f)
 
 -- the last of some lines, with its LF
 abbrev pub last_of : List (List ℕ) → List ℕ

@@ -1,6 +1,6 @@
 // A protocol that is made from a number, decided, and its report checked, all in memory.
 ghost use Rattle.std.specs.Prelude.{◌≡◌, IfOk, IfErr};
-ghost use Rattle.slice_check.specs.Certificate.{Accepts, claim_on};
+ghost use Rattle.slice_check.specs.Certificate.{Accepts};
 ghost use Rattle.slice_core.specs.Cores.{core_of};
 ghost use Rattle.slice_counter.specs.CounterLine.{counter_text};
 ghost use Rattle.slice_gen.specs.Rounds.{rounds_text};
@@ -83,7 +83,7 @@ fn counter_output(alloc: Global, counter: &Counterexample) -> Result<Output, Sto
 
 // The line of a report that is accepted.
 fn count_report(alloc: Global, core: &Core, report: Vec<u8>) -> Result<Output, Stop>
-    requires accepts { Accepts (claim_on (core_of core.now)) report.items }
+    requires accepts { Accepts (core_of core.now) report.items }
     ensures worked { IfOk result (λ l. IsWorked l.status) }
     ensures ok { IfOk result (λ l. CountsReport (core_of core.now) report.items (answer_of l.bytes.items l.status)) }
     ensures err { IfErr result (StopsFor (λ r. CountsReport (core_of core.now) report.items (refused r))) }
@@ -104,7 +104,7 @@ fn count_report(alloc: Global, core: &Core, report: Vec<u8>) -> Result<Output, S
 
 // For how many goals the checker accepts the report, which is a certificate.
 fn check_report(alloc: Global, core: &Core, report: Vec<u8>) -> Result<u64, Stop>
-    requires accepts { Accepts (claim_on (core_of core.now)) report.items }
+    requires accepts { Accepts (core_of core.now) report.items }
     ensures ok { IfOk result (λ n. AcceptsReport (core_of core.now) report.items n) }
     ensures err { IfErr result (StopsFor (RefusesReport (core_of core.now) report.items)) }
 {

@@ -131,8 +131,8 @@ fn finish<K: Sink>(sink: &mut K, bytes: &[u8], status: Status) -> Status
 /// - `paths F` writes a line for each goal of the core, when it is made, and one of their count.
 /// - `run F V` runs it on the valuations in the file V, where each cut is answered by the least right answer, and
 ///   `replay F V` with the answers that stand in V; each writes one line.
-/// - `verify F` writes a certificate, a line for each goal when it is refuted; where the rows of one have a solution, the line
-///   of the counterexample that it gives is the last (`Negative`).
+/// - `verify F` writes a certificate, a line for each goal that no line took when it is refuted; where the rows of one have a
+///   solution, the line of the counterexample that it gives is the last (`Negative`).
 /// - `certify F C` checks the certificate in the file C, line by line, and writes one line: that it is accepted, or what is
 ///   wrong with it first (`Negative`).
 /// - `demo N` does the same as `verify` with the protocol `rounds` of N rounds, a digit from 1 to 8, in memory, and then checks

@@ -1,28 +1,30 @@
 -- The lines of a report that closes without envy are a certificate.
-use Rattle.std.proofs.Common.{◌≡◌, ◌∙◌, ℕ, suc, ◌+◌, ◌≤◌, arith, refl, sym, ap, subst, List, [], ◌∷◌, ◌++◌, length, map, ℤ, Option, append_assoc}
-use Rattle.std.specs.Prelude.{⊤}
-use Rattle.std.specs.List.{Contains}
-use Rattle.std.proofs.lemmas.List.{length-append}
-use Rattle.std.proofs.lemmas.List.Elements.{Contains-append_left}
+use Rattle.std.proofs.Common.{◌≡◌, ◌∙◌, ℕ, ◌≤◌, arith, refl, sym, ap, subst, Bool, true, false, List, [], ◌∷◌, ◌++◌, length, map, drop, Option, append_assoc, append-nil, inr}
+use Rattle.std.specs.Prelude.{nat_lt, if◌then◌else◌}
+use Rattle.std.specs.List.{All}
+use Rattle.std.proofs.lemmas.List.{length-append, length-drop}
+use Rattle.std.proofs.lemmas.List.Elements.{All-nil}
 use Rattle.slice_num.specs.Pieces.{joined}
 use Rattle.slice_io.specs.Told.{appended}
 use Rattle.slice_io.specs.Lines.{lines_of}
 use Rattle.slice_io.proofs.Gathering.{lines_joined}
+use Rattle.slice_core.specs.Cores.{core_of}
 use Rattle.slice_core.specs.Tree.{Core}
 use Rattle.slice_core.specs.WellFormed.{IsWellFormed}
-use Rattle.slice_paths.specs.Coming.{GoalsComeFirst}
-use Rattle.slice_paths.specs.Goals.{Goal}
+use Rattle.slice_paths.specs.Events.{Event, Meets, Breaks, Gives, NoMore, Overflows, OverLimit, Tell, goal_at, goal_limit, next_goal}
+use Rattle.slice_paths.specs.Goals.{Goal, goals}
+use Rattle.slice_paths.specs.RunLaws.{IsRefuted}
+use Rattle.slice_paths.specs.Streams.{Stream}
 use Rattle.slice_cert.specs.declared.line.Line.{Line}
-use Rattle.slice_cert.specs.declared.line.Line.TheVariants.{Closing}
+use Rattle.slice_cert.specs.declared.line.Line.TheVariants.{Header, Closing}
 use Rattle.slice_cert.specs.CertLines.{line_text}
-use Rattle.slice_check.specs.Certificate.{TakeInOrder, AreShort, AreLines, claim_on, line_limit}
-use Rattle.slice_verify.specs.Report.{AreRefuted, IsDecision, IsAccepted, refutations, lines_after, texts_after, AreOut}
-use Rattle.slice_verify.specs.Working.{ReadsBack}
+use Rattle.slice_check.specs.Certificate.{Accepts, TakeInOrder, AreShort, AreLines}
+use Rattle.slice_verify.specs.Report.{IsAccepted, texts_after}
+use Rattle.slice_verify.specs.Working.{GoesOn, NoneComes, ReadsBack}
 use Rattle.slice_verify.specs.declared.verifier.Decision.TheVariants.{EnvyFree}
-use Rattle.slice_verify.proofs.LinesOut.{one_more_out, map-append}
-use Rattle.slice_verify.proofs.Standing.{AllReadBack, read_more}
-use Rattle.slice_verify.proofs.RowCount.{few_rows}
-use Rattle.slice_verify.proofs.Short.{header_short, refutation_short, closing_short}
+use Rattle.slice_verify.proofs.LinesOut.{one_more_out, texts_more}
+use Rattle.slice_verify.proofs.Standing.{AllReadBack, AllShort, Standing, read_more, short_more}
+use Rattle.slice_verify.proofs.Short.{header_short, closing_short}
 
 -- ---- the lines of the bytes
 
@@ -45,14 +47,6 @@ each_line [] h = tt
 each_line (l ∷ ls) h = (h.0.3, each_line ls h.1)
 
 -- ---- none is too long
-abbrev AllShort : List Line → Type 0
-AllShort [] = ⊤
-AllShort (l ∷ ls) = (length (line_text l) ≤ line_limit) × AllShort ls
-
-short_more : (ls : List Line) (l : Line) → AllShort ls → length (line_text l) ≤ line_limit → AllShort (ls ++ l ∷ [])
-short_more [] l h k = (k, tt)
-short_more (x ∷ ls) l h k = (h.0, short_more ls l h.1 k)
-
 each_short : (ls : List Line) (h : AllReadBack ls) → AllShort ls → AreShort (texts_of ls h)
 unfolding texts_of
 each_short [] h s = tt
@@ -62,49 +56,58 @@ each_short (l ∷ ls) h s =
     let g = s.0 in
     (omega (arith, e, f, g), each_short ls h.1 s.1)
 
--- the goals have few rows
-abbrev FewRows : List Goal → Type 0
-FewRows [] = ⊤
-FewRows (g ∷ gs) = (length g.rows ≤ 529) × FewRows gs
+-- ---- all goals
+none_left : (ahead : List Event) (gs : List Goal) (n : ℕ) → Tell ahead gs n → next_goal ahead n ≡ NoMore → gs ≡ []
+none_left [] gs n t e = t
+none_left (Breaks ∷ es) gs n t e = absurd cc
+none_left (Meets f ∷ es) gs n t e = by (nat_lt n goal_limit) f.fit e
+  where
+    by : (x y : Bool) → (if x then (if y then Gives (goal_at n f) es else Overflows) else OverLimit) ≡ NoMore → gs ≡ []
+    by true true h = absurd cc
+    by true false h = absurd cc
+    by false y h = absurd cc
 
-each_few : (gs : List Goal) → ((g : Goal) → Contains gs g → length g.rows ≤ 529) → FewRows gs
-each_few [] h = tt
-each_few (g ∷ gs) h = (h g (0, omega arith, refl), each_few gs (λ x k. h x (suc k.0, (let l = k.1 in omega (arith, l)), k.2)))
+-- where no goal comes any more, all were given
+pub all_given : (core : Core) (s : Stream) → core_of s.core ≡ core → GoesOn s → next_goal s.ahead s.given ≡ NoMore → drop s.given (goals core) ≡ []
+all_given core s same g e = none_left s.ahead (drop s.given (goals core)) s.given (subst (λ (c : Core). Tell s.ahead (drop s.given (goals c)) s.given) same g.rest.tells) e
 
-refutations_short : (n : ℕ) (gs : List Goal) (ms : List (List ℤ)) → FewRows gs → AreRefuted gs ms → AllShort (refutations n ms)
-refutations_short n [] [] few h = tt
-refutations_short n [] (m ∷ ms) few h = absurd h
-refutations_short n (g ∷ gs) [] few h = absurd h
-refutations_short n (g ∷ gs) (m ∷ ms) few h =
-    let long = h.0.refutes.same_length in
-    let rows = few.0 in
-    let text = refutation_short n m in
-    (omega (arith, long, rows, text), refutations_short (n + 1) gs ms few.1 h.1)
+all_counted : (core : Core) (s : Stream) → core_of s.core ≡ core → GoesOn s → drop s.given (goals core) ≡ [] → s.given ≡ length (goals core)
+all_counted core s same g e =
+    let none_ : length (drop s.given (goals core)) ≡ 0 = ap length e in
+    let long = length-drop s.given (goals core) in
+    let within : s.given ≤ length (goals core) = subst (λ (c : Core). s.given ≤ length (goals c)) same g.rest.within in
+    omega (arith, none_, long, within)
 
--- ---- each takes its goal
-taken : (n : ℕ) (gs : List Goal) (ms : List (List ℤ)) → AreRefuted gs ms → TakeInOrder n gs (refutations n ms)
-taken n [] [] h = refl
-taken n [] (m ∷ ms) h = absurd h
-taken n (g ∷ gs) [] h = absurd h
-taken n (g ∷ gs) (m ∷ ms) h = (1, omega arith, (refl, refl, h.0.refutes), taken (n + 1) gs ms h.1)
+pub all_refuted : (core : Core) (old now : Option (List ℕ)) (s : Stream) → core_of s.core ≡ core → GoesOn s → Standing core old now s.given s.ahead → next_goal s.ahead s.given ≡ NoMore → All (IsRefuted core) (goals core)
+all_refuted core old now s same g h e = h.refuted.all (subst (All (IsRefuted core)) (sym (all_given core s same g e)) (All-nil _))
 
 -- ---- the whole report
-pub accepted : (core : Core) (old now new : Option (List ℕ)) (ms : List (List ℤ)) (n : ℕ) → GoalsComeFirst → IsWellFormed core → IsDecision core ms (EnvyFree n) → AllReadBack (lines_after core ms) → ReadsBack (Closing n)
-    → AreOut old now (texts_after core ms) → new ≡ appended now (line_text (Closing n)) → IsAccepted core old new (EnvyFree n)
-accepted core old now new ms n first formed d read back out e =
-    let come = first core in
-    let lines : List Line = lines_after core ms ++ Closing n ∷ [] in
-    let all : AllReadBack lines = read_more (lines_after core ms) (Closing n) read back in
-    let few : FewRows (claim_on core).goals = each_few (claim_on core).goals (λ g h. few_rows core g formed (subst (λ (gs : List Goal). Contains gs g) (sym come.are) (Contains-append_left (claim_on core).goals come.rest g h))) in
-    let short : AllShort lines = short_more (lines_after core ms) (Closing n) (header_short core.name core.agents formed.named, refutations_short 0 (claim_on core).goals ms few d.0) (closing_short n) in
-    let texts : lines_of (joined (map line_text lines)) ≡ texts_of lines all = lines_are lines all in
-    let count : lines ≡ lines_after core ms ++ Closing (length (claim_on core).goals) ∷ [] = ap (λ (k : ℕ). lines_after core ms ++ Closing k ∷ []) d.2 in (
-      joined (map line_text lines),
-      record {
-        short = subst AreShort (sym texts) (each_short lines all short);
-        body = refutations 0 ms;
-        takes = taken 0 (claim_on core).goals ms d.0;
-        lines = subst (λ (ts : List (List ℕ)). AreLines ts (lines_after core ms ++ Closing (length (claim_on core).goals) ∷ [])) (sym texts) (subst (AreLines (texts_of lines all)) count (each_line lines all));
-      },
-      one_more_out old now new (texts_after core ms) (line_text (Closing n)) out e ∙ ap (λ (ts : List (List ℕ)). appended old (joined ts)) (sym (map-append (lines_after core ms) (Closing n ∷ []))),
+
+-- lines that take all goals, between the header and the closing line, are a certificate
+pub certified : (core : Core) (ls : List Line) (n : ℕ) → IsWellFormed core → TakeInOrder core 2 0 (goals core) ls → n ≡ length (goals core) → AllReadBack (Header 2 core.name core.agents ∷ ls) → AllShort ls → ReadsBack (Closing n)
+    → Accepts core (joined (texts_after core (ls ++ Closing n ∷ [])))
+certified core ls n formed takes all back few close =
+    let first : List Line = Header 2 core.name core.agents ∷ ls in
+    let lines : List Line = first ++ Closing n ∷ [] in
+    let read : AllReadBack lines = read_more first (Closing n) back close in
+    let short : AllShort lines = short_more first (Closing n) (header_short core.name core.agents formed.named, few) (closing_short n) in
+    let texts : lines_of (joined (map line_text lines)) ≡ texts_of lines read = lines_are lines read in
+    let total : lines ≡ first ++ Closing (length (goals core)) ∷ [] = ap (λ (k : ℕ). first ++ Closing k ∷ []) all in
+    record {
+      short = subst AreShort (sym texts) (each_short lines read short);
+      body = ls;
+      version = 2;
+      known = inr refl;
+      takes = takes;
+      lines = subst (λ (ts : List (List ℕ)). AreLines ts (first ++ Closing (length (goals core)) ∷ [])) (sym texts) (subst (AreLines (texts_of lines read)) total (each_line lines read));
+    }
+
+pub accepted : (core : Core) (old now new : Option (List ℕ)) (s t : Stream) (n : ℕ) → IsWellFormed core → core_of s.core ≡ core → GoesOn s → Standing core old now s.given s.ahead → NoneComes s t → n ≡ t.given → ReadsBack (Closing n)
+    → new ≡ appended now (line_text (Closing n)) → IsAccepted core old new (EnvyFree n)
+accepted core old now new s t n formed same goes h none_ count back e =
+    let left = all_given core s same goes none_.0 in
+    let takes = subst (TakeInOrder core 2 0 (goals core)) (append-nil h.lines) (h.refuted.takes [] left) in (
+      joined (texts_after core (h.lines ++ Closing n ∷ [])),
+      certified core h.lines n formed takes (count ∙ none_.1 ∙ all_counted core s same goes left) h.read h.short back,
+      one_more_out old now new (texts_after core h.lines) (line_text (Closing n)) h.out e ∙ ap (λ (ts : List (List ℕ)). appended old (joined ts)) (sym (texts_more core h.lines (Closing n))),
     )

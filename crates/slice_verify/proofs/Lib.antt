@@ -1,5 +1,9 @@
 pub mod Passing
 pub mod LinesOut
+pub mod NextGoals
+pub mod Settling
+pub mod Covers
+pub mod Takes
 pub mod Standing
 pub mod Ends
 pub mod RowCount

@@ -1,13 +1,13 @@
 -- Lines that are out, one after another.
-use Rattle.std.proofs.Common.{◌≡◌, ◌∙◌, ℕ, suc, ◌+◌, arith, refl, sym, ap, List, [], ◌∷◌, ◌++◌, length, take, map, ℤ, Option, Some, None, append_assoc, append-nil}
+use Rattle.std.proofs.Common.{◌≡◌, ◌∙◌, ℕ, suc, ◌+◌, arith, refl, sym, ap, List, [], ◌∷◌, ◌++◌, length, take, map, Option, Some, None, append_assoc, append-nil}
 use Rattle.std.proofs.lemmas.List.{length-append}
 use Rattle.slice_num.specs.Pieces.{joined}
 use Rattle.slice_io.specs.Told.{appended, appended-append, FrontIsOut}
 use Rattle.slice_core.specs.Tree.{Core}
 use Rattle.slice_cert.specs.declared.line.Line.{Line}
-use Rattle.slice_cert.specs.declared.line.Line.TheVariants.{Header, Refutation}
+use Rattle.slice_cert.specs.declared.line.Line.TheVariants.{Header}
 use Rattle.slice_cert.specs.CertLines.{line_text}
-use Rattle.slice_verify.specs.Report.{refutations, lines_after, texts_after, AreOut}
+use Rattle.slice_verify.specs.Report.{texts_after, AreOut}
 
 joined_more : (ls : List (List ℕ)) (l : List ℕ) → joined (ls ++ l ∷ []) ≡ joined ls ++ l
 joined_more [] l = append-nil l
@@ -41,22 +41,10 @@ front_out old now new ls l out f =
           ∙ ap (appended old) (sym (take_past (joined ls) l f.count) ∙ ap (take (length (joined ls) + f.count)) (sym same))));
     }
 
-refutations_more : (n : ℕ) (ms : List (List ℤ)) (m : List ℤ) → refutations n (ms ++ m ∷ []) ≡ refutations n ms ++ Refutation (n + length ms) m ∷ []
-refutations_more n [] m = ap (λ (k : ℕ). Refutation k m ∷ []) (omega arith)
-refutations_more n (x ∷ ms) m =
-    ap (λ ls. Refutation n x ∷ ls) (refutations_more (n + 1) ms m)
-    ∙ ap (λ (k : ℕ). Refutation n x ∷ (refutations (n + 1) ms ++ Refutation k m ∷ [])) (omega arith)
-
--- a goal's line more
-pub lines_more : (core : Core) (ms : List (List ℤ)) (m : List ℤ) → lines_after core (ms ++ m ∷ []) ≡ lines_after core ms ++ Refutation (length ms) m ∷ []
-lines_more core ms m =
-    let e : 0 + length ms ≡ length ms = omega arith in
-    ap (λ ls. Header 1 core.name core.agents ∷ ls) (refutations_more 0 ms m)
-    ∙ ap (λ (k : ℕ). lines_after core ms ++ Refutation k m ∷ []) e
-
 pub map-append : (ls ks : List Line) → map line_text (ls ++ ks) ≡ map line_text ls ++ map line_text ks
 map-append [] ks = refl
 map-append (l ∷ ls) ks = ap (λ ts. line_text l ∷ ts) (map-append ls ks)
 
-pub texts_more : (core : Core) (ms : List (List ℤ)) (m : List ℤ) → texts_after core (ms ++ m ∷ []) ≡ texts_after core ms ++ line_text (Refutation (length ms) m) ∷ []
-texts_more core ms m = ap (map line_text) (lines_more core ms m) ∙ map-append (lines_after core ms) (Refutation (length ms) m ∷ [])
+-- a line more
+pub texts_more : (core : Core) (ls : List Line) (l : Line) → texts_after core (ls ++ l ∷ []) ≡ texts_after core ls ++ line_text l ∷ []
+texts_more core ls l = map-append (Header 2 core.name core.agents ∷ ls) (l ∷ [])

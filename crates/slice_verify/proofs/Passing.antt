@@ -24,3 +24,7 @@ ok_also (Err e) x P Q h p f = tt
 pub ok_also_two : {T E : Type 0} (r : Result T E) (x : T) (P R : Type 0) (Q : T → Type 0) → IfOk r (λ y. y ≡ x) → OnOk r P → OnOk r R → (P → R → Q x) → IfOk r Q
 ok_also_two (Ok y) x P R Q h p q f = subst Q (sym h) (f p q)
 ok_also_two (Err e) x P R Q h p q f = tt
+
+pub on_map_three : {T E : Type 0} (r : Result T E) (P Q R S : Type 0) → OnOk r P → OnOk r Q → OnOk r R → (P → Q → R → S) → OnOk r S
+on_map_three (Ok x) P Q R S p q r f = f p q r
+on_map_three (Err e) P Q R S p q r f = tt

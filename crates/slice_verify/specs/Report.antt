@@ -1,5 +1,5 @@
 -- What the verifier writes of a core, and what it answers.
-use Rattle.std.specs.Prelude.{◌≡◌, ℕ, ◌+◌, ⊤, ℤ, List, [], ◌∷◌, ◌++◌, length, map, suc, Some, None}
+use Rattle.std.specs.Prelude.{◌≡◌, ◌⊎◌, ℕ, ◌+◌, ◌<◌, ◌≤◌, ⊤, ℤ, List, [], ◌∷◌, ◌++◌, drop, map, suc}
 use Rattle.std.specs.List.{Contains}
 use Rattle.std.specs.declared.option.Option.{Option}
 use Rattle.slice_num.specs.Pieces.{joined}
@@ -12,15 +12,17 @@ use Rattle.slice_core.specs.Measures.{worth_of, length_of}
 use Rattle.slice_core.specs.Run.{run_core}
 use Rattle.slice_linear.specs.Rows.{Refutes}
 use Rattle.slice_atoms.specs.Addresses.{atom_count}
+use Rattle.slice_paths.specs.Events.{Event, Gives, NoMore, Overflows, OverLimit, events_of, goal_limit, next_goal}
+use Rattle.slice_paths.specs.Fronts.{ShareFirst, events_after}
 use Rattle.slice_paths.specs.Goals.{Goal, goals}
 use Rattle.slice_paths.specs.Ways.{way_of}
-use Rattle.slice_paths.specs.declared.goal.GoalFault.TheVariants as goal_fault
 use Rattle.slice_simplex.specs.Bases.{HasBases}
 use Rattle.slice_simplex.specs.ProverAnswer.{IsProverAnswer, RefutedBy, SolvedBy, AtLimit, Unfit}
 use Rattle.slice_cert.specs.declared.line.Line.{Line}
-use Rattle.slice_cert.specs.declared.line.Line.TheVariants.{Header, Refutation, Closing}
+use Rattle.slice_cert.specs.declared.line.Line.TheVariants.{Header, Refutation, Cover, Closing}
 use Rattle.slice_cert.specs.CertLines.{line_text}
-use Rattle.slice_check.specs.Certificate.{Accepts, claim_on}
+use Rattle.slice_cert.specs.ShortForms.{short_line}
+use Rattle.slice_check.specs.Certificate.{Accepts}
 use Rattle.slice_counter.specs.Counter.{IsCounterexample, IsLow, valuations_of, answers_of}
 use Rattle.slice_counter.specs.CounterLine.{counter_text}
 use Rattle.slice_counter.specs.Heights.{IsFirstHigh}
@@ -54,59 +56,83 @@ pub record IsCounterOf (core : Core) (g : Goal) (xs : List ℤ) (c : Counterexam
 
 -- ---- goals in order
 
--- each goal is refuted by the multipliers at its place
-abbrev pub AreRefuted : List Goal → List (List ℤ) → Type 0
-AreRefuted [] [] = ⊤
-AreRefuted [] (m ∷ ms) = ⊥
-AreRefuted (g ∷ gs) [] = ⊥
-AreRefuted (g ∷ gs) (m ∷ ms) = IsRefutedBy g m × AreRefuted gs ms
+-- the line was written for goal n, which comes next where these events are ahead: its rows are refuted, and the line is the
+-- short form of that with its end multipliers
+pub record IsTaken (core : Core) (n : ℕ) (ahead : List Event) (l : Line) : Type 0 where
+  pub goal : Goal
+  pub later : List Event
+  pub comes : next_goal ahead n ≡ Gives goal later
+  pub multipliers : List ℤ
+  pub refuted : IsRefutedBy goal multipliers
+  pub line : l ≡ short_line core.agents n multipliers
 
--- the goals that can be made are all refuted by these multipliers
-abbrev pub AllRefuted : Core → List (List ℤ) → Type 0
-AllRefuted core ms = AreRefuted (claim_on core).goals ms
+-- behind the line of goal n so many goals are taken, and these events are ahead: a line that covers goals takes all that are
+-- left with the same first passed choices
+abbrev pub LeadsTo : Core → ℕ → Goal → List Event → Line → ℕ → List Event → Type 0
+LeadsTo core n g later (Header version protocol agents) m es = ⊥
+LeadsTo core n g later (Refutation goal multipliers) m es = (m ≡ n + 1) × (es ≡ later)
+LeadsTo core n g later (Cover goal passed multipliers) m es =
+    (count : ℕ) × ShareFirst core passed g.trace (drop n (goals core)) count × (m ≡ n + count) × (es ≡ events_after core passed g.trace)
+LeadsTo core n g later (Closing total) m es = ⊥
 
--- those before this goal are refuted by these multipliers
-pub record IsReached (core : Core) (ms : List (List ℤ)) (g : Goal) : Type 0 where
-  pub before : List Goal
-  pub after : List Goal
-  pub split : before ++ g ∷ after ≡ (claim_on core).goals
-  pub refuted : AreRefuted before ms
-  pub number : g.number ≡ length before
+-- the lines, one after another, take goals from n on up to m, where these events are ahead; no more than a million
+abbrev pub AreTaken : Core → ℕ → List Event → List Line → ℕ → List Event → Type 0
+AreTaken core n ahead [] m later = (m ≡ n) × (later ≡ ahead)
+AreTaken core n ahead (l ∷ ls) m later =
+    (t : IsTaken core n ahead l) × (k : ℕ) × (mid : List Event) × LeadsTo core n t.goal t.later l k mid × (k ≤ goal_limit) × AreTaken core k mid ls m later
 
--- what is decided after these multipliers: that all goals are refuted; or that the rows of the next one have a solution,
--- which gives a counterexample
-abbrev pub IsDecision : Core → List (List ℤ) → Decision → Type 0
-IsDecision core ms (EnvyFree n) = AllRefuted core ms × ((claim_on core).fault ≡ None) × (n ≡ length (claim_on core).goals)
-IsDecision core ms (Found c) = (g : Goal) × (xs : List ℤ) × IsReached core ms g × IsProverAnswer g.rows pivot_limit (SolvedBy xs) × IsCounterOf core g xs c
+-- the lines take the core's first goals, as many as that, and these events are ahead
+abbrev pub TakeFirst : Core → List Line → ℕ → List Event → Type 0
+TakeFirst core ls n ahead = AreTaken core 0 (events_of core) ls n ahead
 
--- what keeps the work from going on after these multipliers, faults of devices and want of memory aside: no further goal
--- can be made; the prover doesn't decide the next one, and at its limit met one basis more than the limit, all different;
--- or a solution of the next goal's rows has a number above the greatest height, the first by agent and then atom
-abbrev pub IsStop : Core → List (List ℤ) → VerifyFault → Type 0
-IsStop core ms GoalLimit = AllRefuted core ms × ((claim_on core).fault ≡ Some goal_fault.GoalLimit)
-IsStop core ms (FormOverflow n) = AllRefuted core ms × ((claim_on core).fault ≡ Some (goal_fault.Overflow n))
-IsStop core ms (PivotLimit n) =
-    (g : Goal) × IsReached core ms g × (n ≡ g.number) × IsProverAnswer g.rows pivot_limit AtLimit × HasBases g.rows (suc pivot_limit)
-IsStop core ms (PivotOverflow n pivots i j) = (g : Goal) × IsReached core ms g × (n ≡ g.number) × IsProverAnswer g.rows pivot_limit (Unfit pivots i j)
-IsStop core ms (HeightLimit n agent atom) =
-    (g : Goal) × (xs : List ℤ) × IsReached core ms g × (n ≡ g.number) × IsProverAnswer g.rows pivot_limit (SolvedBy xs)
+-- after these lines the goal comes next
+pub record IsReached (core : Core) (ls : List Line) (g : Goal) : Type 0 where
+  pub ahead : List Event
+  pub later : List Event
+  pub taken : TakeFirst core ls g.number ahead
+  pub comes : next_goal ahead g.number ≡ Gives g later
+
+-- the last of these lines covers goals, and with them they are more than a million
+pub record PassesLimit (core : Core) (ls : List Line) : Type 0 where
+  pub before : List Line
+  pub last : Line
+  pub split : ls ≡ before ++ last ∷ []
+  pub number : ℕ
+  pub ahead : List Event
+  pub taken : TakeFirst core before number ahead
+  pub covers : IsTaken core number ahead last
+  pub goals : ℕ
+  pub later : List Event
+  pub leads : LeadsTo core number covers.goal covers.later last goals later
+  pub too_many : goal_limit < goals
+
+-- what is decided after these lines: that all goals are refuted; or that the rows of the next one have a solution, which
+-- gives a counterexample
+abbrev pub IsDecision : Core → List Line → Decision → Type 0
+IsDecision core ls (EnvyFree n) = (ahead : List Event) × TakeFirst core ls n ahead × (next_goal ahead n ≡ NoMore)
+IsDecision core ls (Found c) = (g : Goal) × (xs : List ℤ) × IsReached core ls g × IsProverAnswer g.rows pivot_limit (SolvedBy xs) × IsCounterOf core g xs c
+
+-- what keeps the work from going on after these lines, faults of devices and want of memory aside: no further goal can be
+-- made, or the last line covers too many; the prover doesn't decide the next one, and at its limit met one basis more than
+-- the limit, all different; or a solution of the next goal's rows has a number above the greatest height, the first by agent
+-- and then atom
+abbrev pub IsStop : Core → List Line → VerifyFault → Type 0
+IsStop core ls GoalLimit = ((n : ℕ) × (ahead : List Event) × TakeFirst core ls n ahead × (next_goal ahead n ≡ OverLimit)) ⊎ PassesLimit core ls
+IsStop core ls (FormOverflow n) = (ahead : List Event) × TakeFirst core ls n ahead × (next_goal ahead n ≡ Overflows)
+IsStop core ls (PivotLimit n) =
+    (g : Goal) × IsReached core ls g × (n ≡ g.number) × IsProverAnswer g.rows pivot_limit AtLimit × HasBases g.rows (suc pivot_limit)
+IsStop core ls (PivotOverflow n pivots i j) = (g : Goal) × IsReached core ls g × (n ≡ g.number) × IsProverAnswer g.rows pivot_limit (Unfit pivots i j)
+IsStop core ls (HeightLimit n agent atom) =
+    (g : Goal) × (xs : List ℤ) × IsReached core ls g × (n ≡ g.number) × IsProverAnswer g.rows pivot_limit (SolvedBy xs)
     × IsFirstHigh core.agents (atom_count (way_of core g.trace).cake) xs agent atom
-IsStop core ms WriteFault = ⊥
-IsStop core ms Memory = ⊥
+IsStop core ls WriteFault = ⊥
+IsStop core ls Memory = ⊥
 
 -- ---- lines
 
--- the lines of goals with these multipliers, from goal n on
-abbrev pub refutations : ℕ → List (List ℤ) → List Line
-refutations n [] = []
-refutations n (m ∷ ms) = Refutation n m ∷ refutations (n + 1) ms
-
--- the lines so far, after these multipliers: the header, and a line for each goal
-abbrev pub lines_after : Core → List (List ℤ) → List Line
-lines_after core ms = Header 1 core.name core.agents ∷ refutations 0 ms
-
-abbrev pub texts_after : Core → List (List ℤ) → List (List ℕ)
-texts_after core ms = map line_text (lines_after core ms)
+-- the texts so far: of the header, and of the lines that were written
+abbrev pub texts_after : Core → List Line → List (List ℕ)
+texts_after core ls = map line_text (Header 2 core.name core.agents ∷ ls)
 
 -- the closing line
 abbrev pub closing_text : Decision → List ℕ
@@ -114,8 +140,8 @@ closing_text (EnvyFree n) = line_text (Closing n)
 closing_text (Found c) = counter_text c
 
 -- all lines of a report
-abbrev pub report_texts : Core → List (List ℤ) → Decision → List (List ℕ)
-report_texts core ms d = texts_after core ms ++ closing_text d ∷ []
+abbrev pub report_texts : Core → List Line → Decision → List (List ℕ)
+report_texts core ls d = texts_after core ls ++ closing_text d ∷ []
 
 -- these lines, one after another, were put behind what was out
 abbrev pub AreOut : Option (List ℕ) → Option (List ℕ) → List (List ℕ) → Type 0
@@ -125,24 +151,26 @@ AreOut old new texts = new ≡ appended old (joined texts)
 
 -- the decision, and its whole report is out
 abbrev pub DecisionIs : Core → Option (List ℕ) → Option (List ℕ) → Decision → Type 0
-DecisionIs core old new d = (ms : List (List ℤ)) × IsDecision core ms d × AreOut old new (report_texts core ms d)
+DecisionIs core old new d = (ls : List Line) × IsDecision core ls d × AreOut old new (report_texts core ls d)
 
--- lines with which a report begins: none, or the header and the lines of some goals, the first ones
+-- lines with which a report begins: none, or the header and lines that take the first goals; the last of them may cover
+-- goals that aren't counted yet
 pub data Begins (core : Core) (texts : List (List ℕ)) : Type 0 where
   none : texts ≡ [] → Begins core texts
-  begun : (ms : List (List ℤ)) (before after : List Goal) → before ++ after ≡ (claim_on core).goals → AreRefuted before ms → texts ≡ texts_after core ms → Begins core texts
+  begun : (ls : List Line) (n : ℕ) (ahead : List Event) → TakeFirst core ls n ahead → texts ≡ texts_after core ls → Begins core texts
+  covered : (ls : List Line) (n : ℕ) (ahead : List Event) (l : Line) → TakeFirst core ls n ahead → IsTaken core n ahead l → texts ≡ texts_after core (ls ++ l ∷ []) → Begins core texts
 
 -- such lines, or a whole report
 pub data AreRight (core : Core) (texts : List (List ℕ)) : Type 0 where
   part : Begins core texts → AreRight core texts
-  whole : (ms : List (List ℤ)) (d : Decision) → IsDecision core ms d → texts ≡ report_texts core ms d → AreRight core texts
+  whole : (ls : List Line) (d : Decision) → IsDecision core ls d → texts ≡ report_texts core ls d → AreRight core texts
 
 -- the refusal, and the lines so far are out: with a fault of the sink a front of the bytes of such lines or of a whole
 -- report; for want of memory such lines
 abbrev pub FaultIs : Core → Option (List ℕ) → Option (List ℕ) → VerifyFault → Type 0
 FaultIs core old new WriteFault = (texts : List (List ℕ)) × AreRight core texts × FrontIsOut old new (joined texts)
 FaultIs core old new Memory = (texts : List (List ℕ)) × Begins core texts × AreOut old new texts
-FaultIs core old new e = (ms : List (List ℤ)) × IsStop core ms e × AreOut old new (texts_after core ms)
+FaultIs core old new e = (ls : List Line) × IsStop core ls e × AreOut old new (texts_after core ls)
 
 -- ---- what a decision means
 
@@ -153,5 +181,5 @@ IsExact core (Found c) = IsFair core.agents (worth_of c.valuations) (run_core (w
 
 -- of the bytes: where no envy is left, those that were put behind the others are a certificate of the core
 abbrev pub IsAccepted : Core → Option (List ℕ) → Option (List ℕ) → Decision → Type 0
-IsAccepted core old new (EnvyFree n) = (bytes : List ℕ) × Accepts (claim_on core) bytes × (new ≡ appended old bytes)
+IsAccepted core old new (EnvyFree n) = (bytes : List ℕ) × Accepts core bytes × (new ≡ appended old bytes)
 IsAccepted core old new (Found c) = ⊤

@@ -1,12 +1,10 @@
 //! The lines of a report, as they are written.
 ghost use Rattle.std.specs.Prelude.{◌≡◌, ◌≤◌, IfErr, IfOk, OnOk};
-ghost use Rattle.std.specs.List.{All};
-ghost use Rattle.slice_num.specs.Rational.{Fits};
 ghost use Rattle.slice_io.specs.Causes.{Rose};
 ghost use Rattle.slice_io.specs.Told.{appended};
 ghost use Rattle.slice_core.specs.Cores.{core_of};
 ghost use Rattle.slice_cert.specs.CertLines.{line_text, MayStand};
-ghost use Rattle.slice_cert.specs.declared.line.Line.TheVariants.{Header, Refutation, Closing};
+ghost use Rattle.slice_cert.specs.declared.line.Line.TheVariants.{Header, Closing};
 ghost use Rattle.slice_verify.specs.Report.{closing_text};
 ghost use Rattle.slice_verify.specs.Working.{LineStops, ReadsBack};
 ghost use Rattle.slice_verify.specs.declared.verifier.Decision.TheVariants.{EnvyFree, Found};
@@ -17,7 +15,6 @@ use slice_core::Core;
 use slice_counter::{Counterexample, counter_line};
 use slice_io::{Sink, put_all};
 use slice_num::Word;
-use sqlite_items::Items;
 use std::alloc::Global;
 
 // Writes the first line.
@@ -26,39 +23,18 @@ pub(crate) fn put_header<K: Sink>(
     core: &Core,
     sink: &mut K,
 ) -> Result<(), VerifyFault>
-    ensures out { OnOk result (K.told sink.new ≡ appended (K.told sink.old) (line_text (Header 1 (core_of core.now).name (core_of core.now).agents))) }
-    ensures line { OnOk result (ReadsBack (Header 1 (core_of core.now).name (core_of core.now).agents)) }
-    ensures stops { IfErr result (λ e. LineStops (K.told sink.old) (K.told sink.new) (line_text (Header 1 (core_of core.now).name (core_of core.now).agents)) e) }
+    ensures out { OnOk result (K.told sink.new ≡ appended (K.told sink.old) (line_text (Header 2 (core_of core.now).name (core_of core.now).agents))) }
+    ensures line { OnOk result (ReadsBack (Header 2 (core_of core.now).name (core_of core.now).agents)) }
+    ensures stops { IfErr result (λ e. LineStops (K.told sink.old) (K.told sink.new) (line_text (Header 2 (core_of core.now).name (core_of core.now).agents)) e) }
     ensures later { K.faults sink.old ≤ K.faults sink.new }
     ensures rose { IfErr result (λ e. e ≡ VerifyFault.WriteFault → Rose (K.faults sink.old) (K.faults sink.new)) }
 {
     let agents = core.agents();
     let protocol = Word::new(alloc, core.name().bytes())?;
     let line = Line::Header {
-        version: 1,
+        version: 2,
         protocol,
         agents,
-    };
-    put_line(alloc, &line, sink)
-}
-
-// Writes the line of a goal that is refuted.
-pub(crate) fn put_refutation<K: Sink>(
-    alloc: Global,
-    goal: u64,
-    multipliers: Vec<i128>,
-    sink: &mut K,
-) -> Result<(), VerifyFault>
-    requires fits { All Fits multipliers.items }
-    ensures out { OnOk result (K.told sink.new ≡ appended (K.told sink.old) (line_text (Refutation goal multipliers.items))) }
-    ensures line { OnOk result (ReadsBack (Refutation goal multipliers.items)) }
-    ensures stops { IfErr result (λ e. LineStops (K.told sink.old) (K.told sink.new) (line_text (Refutation goal multipliers.items)) e) }
-    ensures later { K.faults sink.old ≤ K.faults sink.new }
-    ensures rose { IfErr result (λ e. e ≡ VerifyFault.WriteFault → Rose (K.faults sink.old) (K.faults sink.new)) }
-{
-    let line = Line::Refutation {
-        goal,
-        multipliers: Items::from_vec(multipliers),
     };
     put_line(alloc, &line, sink)
 }
@@ -98,7 +74,7 @@ pub(crate) fn close_found<K: Sink>(
 }
 
 // Writes a line of the certificate.
-fn put_line<K: Sink>(alloc: Global, line: &Line, sink: &mut K) -> Result<(), VerifyFault>
+pub(crate) fn put_line<K: Sink>(alloc: Global, line: &Line, sink: &mut K) -> Result<(), VerifyFault>
     requires may { MayStand line.now }
     ensures out { OnOk result (K.told sink.new ≡ appended (K.told sink.old) (line_text line.now)) }
     ensures line { OnOk result (ReadsBack line.now) }

@@ -1,7 +1,7 @@
 // What no clause says: that calls succeed with ample memory, with the programs, places and faults of whole texts, and the texts of faults.
-use slice_parse::{ParseFault, parse};
 use slice_ast::{Stmt, print};
 use slice_lex::LexFault;
+use slice_parse::{ParseFault, parse};
 use std::alloc::{AllocError, Global};
 use std::test::Fail;
 

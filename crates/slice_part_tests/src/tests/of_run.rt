@@ -3,9 +3,9 @@ ghost use Rattle.std.specs.Prelude.{◌≡◌, IfOk, length};
 ghost use Rattle.slice_core.specs.Cores.{core_of};
 ghost use Rattle.slice_core.specs.WellFormed.{IsSumOver};
 
-use slice_run::{CutAnswer, Outcome, Query, QueryKind, RunFault, replay, run_least};
 use slice_core::{Core, Lin, LinTerm, Node, Source};
 use slice_num::{Frac, Interval, Word};
+use slice_run::{CutAnswer, Outcome, Query, QueryKind, RunFault, replay, run_least};
 use slice_step::{Valuation, Valuations};
 use sqlite_items::{Boxed, Items};
 use std::test::Fail;

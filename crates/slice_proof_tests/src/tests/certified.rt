@@ -1,9 +1,9 @@
 // What is said of certificates of cut-and-choose.
+use super::neighbours;
+use slice_io::{MemoryShelf, MemorySink};
 use slice_tests::files::CC;
 use slice_tests::{Text, files_of, words_of};
-use super::neighbours;
 use slice_top::{Status, top};
-use slice_io::{MemoryShelf, MemorySink};
 use std::alloc::{AllocError, Global};
 use std::process::Abort;
 use std::test::Fail;
@@ -154,8 +154,29 @@ const CHANGES: &[Change] = &[
     (
         0,
         1,
-        &["{\"agents\":3,\"certificate\":2,\"protocol\":\"dd\"}"],
+        &["{\"agents\":3,\"certificate\":3,\"protocol\":\"dd\"}"],
         "{\"accepted\":false,\"fault\":\"HeaderDiffers\",\"field\":\"version\"}\n",
+        Status::Negative,
+    ),
+    (
+        0,
+        1,
+        &["{\"agents\":2,\"certificate\":0,\"protocol\":\"cc\"}"],
+        "{\"accepted\":false,\"fault\":\"HeaderDiffers\",\"field\":\"version\"}\n",
+        Status::Negative,
+    ),
+    (
+        0,
+        1,
+        &["{\"agents\":2,\"certificate\":2,\"protocol\":\"cc\"}"],
+        "{\"accepted\":true,\"goals\":6}\n",
+        Status::Good,
+    ),
+    (
+        0,
+        1,
+        &["{\"agents\":2,\"certificate\":2,\"protocol\":\"dd\"}"],
+        "{\"accepted\":false,\"fault\":\"HeaderDiffers\",\"field\":\"protocol\"}\n",
         Status::Negative,
     ),
     (
@@ -218,9 +239,15 @@ const CHANGES: &[Change] = &[
 ];
 
 // The lines with the change, each with an LF.
-fn changed(alloc: Global, from: usize, to: usize, lines: &[&str]) -> Result<String, AllocError> {
+fn changed(
+    alloc: Global,
+    whole: &[&str],
+    from: usize,
+    to: usize,
+    lines: &[&str],
+) -> Result<String, AllocError> {
     let mut text = String::new(alloc);
-    for (i, line) in LINES.iter().enumerate() {
+    for (i, line) in whole.iter().enumerate() {
         if i == from {
             put_lines(&mut text, lines)?;
         }
@@ -228,7 +255,7 @@ fn changed(alloc: Global, from: usize, to: usize, lines: &[&str]) -> Result<Stri
             put_lines(&mut text, &[*line])?;
         }
     }
-    if from == LINES.len() {
+    if from == whole.len() {
         put_lines(&mut text, lines)?;
     }
     Ok(text)
@@ -259,10 +286,17 @@ fn certified(
     Ok((status, out))
 }
 
-fn each(rt: &impl Abort, alloc: Global, changes: &[Change]) -> Result<(), Fail> {
+// Each change of these lines gives what is wanted of it.
+pub(super) fn each(
+    rt: &impl Abort,
+    alloc: Global,
+    protocol: &str,
+    whole: &[&str],
+    changes: &[Change],
+) -> Result<(), Fail> {
     for (from, to, lines, wanted, status) in changes {
-        let text = changed(alloc, *from, *to, lines)?;
-        let (got, out) = certified(alloc, CC, text.as_str(), &[])?;
+        let text = changed(alloc, whole, *from, *to, lines)?;
+        let (got, out) = certified(alloc, protocol, text.as_str(), &[])?;
         assert_eq!(rt; got, *status, "{text}");
         assert!(rt; out.as_slice() == wanted.as_bytes(), "{text}");
     }
@@ -271,17 +305,17 @@ fn each(rt: &impl Abort, alloc: Global, changes: &[Change]) -> Result<(), Fail> 
 
 #[test]
 fn the_first_fault_of_a_certificate_is_told(rt: HostRuntime) -> Result<(), Fail> {
-    each(&rt, rt.alloc(), CHANGES)
+    each(&rt, rt.alloc(), CC, LINES, CHANGES)
 }
 
 #[test]
 fn each_multiplier_counts(rt: HostRuntime) -> Result<(), Fail> {
-    each(&rt, rt.alloc(), neighbours::NEIGHBOURS)
+    each(&rt, rt.alloc(), CC, LINES, neighbours::NEIGHBOURS)
 }
 
 #[test]
 fn each_further_multiplier_counts(rt: HostRuntime) -> Result<(), Fail> {
-    each(&rt, rt.alloc(), neighbours::MORE_NEIGHBOURS)
+    each(&rt, rt.alloc(), CC, LINES, neighbours::MORE_NEIGHBOURS)
 }
 
 // Whether `certify` answers so.
@@ -303,7 +337,7 @@ pub(super) const ACCEPTED: &str = "{\"accepted\":true,\"goals\":6}\n";
 #[test]
 fn certificates_are_of_one_protocol(rt: HostRuntime) -> Result<(), Fail> {
     let alloc = rt.alloc();
-    let text = changed(alloc, 0, 0, &[])?;
+    let text = changed(alloc, LINES, 0, 0, &[])?;
     let text = text.as_str();
     let short = text.trim_end();
     assert!(rt; says(alloc, CC, short, &[], ACCEPTED, Status::Good)?);
@@ -329,7 +363,7 @@ fn long_lines_are_not_read(rt: HostRuntime) -> Result<(), Fail> {
 #[test]
 fn a_read_that_fails_names_its_file(rt: HostRuntime) -> Result<(), Fail> {
     let alloc = rt.alloc();
-    let text = changed(alloc, 0, 0, &[])?;
+    let text = changed(alloc, LINES, 0, 0, &[])?;
     let protocol = "{\"file\":\"f.slice\",\"refused\":\"ReadFault\"}\n";
     let certificate = "{\"file\":\"f.cert\",\"refused\":\"ReadFault\"}\n";
     for (read, line, status) in [

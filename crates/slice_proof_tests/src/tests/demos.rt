@@ -1,7 +1,7 @@
 // What `demo` tells, and which numbers of rounds are none.
+use slice_io::{GrowingSink, MemoryShelf};
 use slice_tests::words_of;
 use slice_top::{Status, top};
-use slice_io::{GrowingSink, MemoryShelf};
 use std::alloc::Global;
 use std::process::Abort;
 use std::test::Fail;

@@ -1,8 +1,8 @@
 // What `verify` writes: certificates, counterexamples and what a failed write leaves; each counterexample is a run.
+use slice_io::{GrowingSink, MemoryShelf, MemorySink};
 use slice_tests::files::{CC, JP, LD};
 use slice_tests::{Text, files_of, words_of};
 use slice_top::{Status, top};
-use slice_io::{GrowingSink, MemoryShelf, MemorySink};
 use std::alloc::Global;
 use std::process::Abort;
 use std::str;
@@ -10,7 +10,7 @@ use std::test::Fail;
 
 // The lines of `verify` for cut-and-choose.
 const LINES: &[&str] = &[
-    "{\"agents\":2,\"certificate\":1,\"protocol\":\"cc\"}\n",
+    "{\"agents\":2,\"certificate\":2,\"protocol\":\"cc\"}\n",
     "{\"goal\":0,\"multipliers\":[\"0\",\"0\",\"0\",\"1\"]}\n",
     "{\"goal\":1,\"multipliers\":[\"0\",\"1\",\"0\",\"1\"]}\n",
     "{\"goal\":2,\"multipliers\":[\"0\",\"1\",\"0\",\"-1\",\"0\",\"1\"]}\n",
@@ -46,6 +46,35 @@ fn a_fair_protocol_is_certified(rt: HostRuntime) -> Result<(), Fail> {
     Ok(())
 }
 
+// Its arms that no run goes into have a line each, with what comes after them; what is left has a counterexample.
+const DEAD_ARMS: &str =
+    "procedure share0 ( number b1 , number piece_2 , piece n3 , piece piece_4 ) { } protocol proto_1 agents 2 { if 3 / 2 * value ( 2 , cake ) > 2 / 3 - 5 / 7 + value ( 1 , cake ) { give cake to 1 ; } else { cut 2 cake at 1 / 6 as b5 , p6 ; } if 2 / 3 - 1 / 4 >= 2 { if 1 - 0 * 3 / 2 - 1 >= 1 / 2 { } else { let v7 = 1 / 6 * 1 / 4 ; if v7 <= 1 / 3 { } else { } } } else { } let v8 = 1 / 4 * 3 / 2 ; if v8 - 5 / 7 * 3 / 2 - 2 / 3 * v8 > v8 { } else { } let n9 = v8 + 3 / 4 * 1 / 6 ; }";
+
+const COVERED: &[&str] = &[
+    "{\"agents\":2,\"certificate\":2,\"protocol\":\"proto_1\"}\n",
+    "{\"goal\":0,\"multipliers\":[\"0\",\"0\",\"0\",\"0\",\"0\",\"0\",\"0\",\"1\"]}\n",
+    "{\"cover\":4,\"goal\":1,\"multipliers\":[\"0\",\"0\",\"0\",\"0\",\"0\",\"0\",\"1\"]}\n",
+    "{\"goal\":2,\"multipliers\":[\"0\",\"0\",\"0\",\"0\",\"0\",\"0\",\"0\",\"1\"]}\n",
+    "{\"goal\":3,\"multipliers\":[\"0\",\"0\",\"-1\",\"0\",\"0\",\"1\",\"0\",\"1\"]}\n",
+    "{\"goal\":4,\"multipliers\":[\"0\",\"0\",\"0\",\"0\",\"0\",\"0\",\"0\",\"0\",\"1\"]}\n",
+    "{\"cover\":5,\"goal\":5,\"multipliers\":[\"0\",\"0\",\"0\",\"0\",\"0\",\"0\",\"0\",\"1\"]}\n",
+    "{\"goal\":6,\"multipliers\":[\"0\",\"0\",\"0\",\"0\",\"0\",\"0\",\"0\",\"0\",\"1\"]}\n",
+    "{\"cover\":3,\"goal\":7,\"multipliers\":[\"0\",\"0\",\"0\",\"0\",\"1\",\"1\"]}\n",
+    "{\"goal\":12,\"multipliers\":[\"0\",\"0\",\"0\",\"0\",\"0\",\"0\",\"1\"]}\n",
+    "{\"cover\":3,\"goal\":13,\"multipliers\":[\"0\",\"0\",\"0\",\"0\",\"0\",\"1\"]}\n",
+    "{\"goal\":14,\"multipliers\":[\"0\",\"0\",\"0\",\"0\",\"0\",\"0\",\"1\"]}\n",
+    "{\"closing\":\"counterexample\",\"cuts\":[],\"goal\":15,\"outcome\":{\"agent\":2,\"envies\":1},\"valuations\":[{\"ends\":[1],\"heights\":[1]},{\"ends\":[1],\"heights\":[1]}]}\n",
+];
+
+#[test]
+fn one_line_covers_goals_behind_the_same_choices(rt: HostRuntime) -> Result<(), Fail> {
+    let alloc = rt.alloc();
+    let (status, report) = told(alloc, "verify", DEAD_ARMS, "")?;
+    assert_eq!(rt; status, Status::Negative);
+    assert!(rt; report.as_slice() == COVERED.concat(alloc)?.as_bytes());
+    Ok(())
+}
+
 // What was written before a write fails: the lines before it.
 #[test]
 fn lines_before_a_failed_write_are_out(rt: HostRuntime) -> Result<(), Fail> {
@@ -76,6 +105,10 @@ const ENDS: &[Text] = &[
         "{\"closing\":\"envy-free\",\"goals\":2}",
     ),
     (JP, "{\"closing\":\"envy-free\",\"goals\":4}"),
+    (
+        "protocol z agents 2 { if 0 >= 1 { give cake to 1; } else { } }",
+        "{\"closing\":\"envy-free\",\"goals\":4}",
+    ),
     (
         "protocol deep agents 1 { cut 1 cake at 1/999999999999999999 * value(1, cake) as a, b; cut 1 a at 1/999999999999999999 * value(1, a) as c, d; cut 1 c at 1/999999999999999999 * value(1, c) as e, f; }",
         "{\"closing\":\"envy-free\",\"goals\":6}",
@@ -110,6 +143,24 @@ fn reports_are_closed(rt: HostRuntime) -> Result<(), Fail> {
             if fair { Status::Good } else { Status::Negative },
             "{last}"
         );
+    }
+    Ok(())
+}
+
+// A report that closes so is accepted for all goals.
+#[test]
+fn reports_that_close_without_envy_are_accepted(rt: HostRuntime) -> Result<(), Fail> {
+    let alloc = rt.alloc();
+    for (text, _) in ENDS {
+        let (status, report) = told(alloc, "verify", text, "")?;
+        if status == Status::Good {
+            let (accepted, out) = told(alloc, "certify", text, str::from_utf8(&report)?)?;
+            assert_eq!(rt; accepted, Status::Good, "{text}");
+            assert!(rt;
+                str::from_utf8(&out)?.starts_with("{\"accepted\":true,"),
+                "{text}"
+            );
+        }
     }
     Ok(())
 }

@@ -1,56 +1,75 @@
-use Rattle.std.proofs.Common.{◌≡◌, ◌∙◌, ◌+◌, sym, subst, ℕ, List, arith, drop}
-use Rattle.slice_check.specs.Certificate.{Stands}
+use Rattle.std.proofs.Common.{◌≡◌, ◌∙◌, ◌+◌, sym, subst, ℕ, List, length, arith}
+use Rattle.slice_core.specs.Cores.{core_of}
+use Rattle.slice_core.specs.declared.core_tree.Core.{Core}
+use Rattle.slice_paths.specs.Events.{Gives, next_goal}
+use Rattle.slice_paths.specs.Goals.{goals}
+use Rattle.slice_check.specs.Certificate.{AtGoal}
+use Rattle.slice_check.specs.Steps.{Reached, ReachedEnd, Stops}
 use Rattle.slice_check.proofs.Passing.{passed_on, told_moved}
-use Rattle.slice_check.proofs.Stopping.{goals_stop, all_taken, next_there, next_left}
+use Rattle.slice_check.proofs.Standing.{all_given}
+use Rattle.slice_check.proofs.Stopping.{at_goal, goals_stop}
 use Rattle.slice_check.proofs.check.check_goals.Goals as goal
 
 pub returns-in_err-goal-clause-stop : goal.returns-in_err-goal-clause-stop
 returns-in_err-goal-clause-stop g c =
-    passed_on c.from_residual.result _ c.in_err-goal.field-0.0 c.from_residual.ensures.1 (λ claim file told s st h.
-    let i = c.loop-goal.invariant.stands claim file told s st h in
-    goals_stop claim file c.loop-goal.goals c.loop-goal.count (c.loop-goal.count + 1) _ i.0 i.2 i.3 ((c.in_err-goal.ensures {u = tt}).fault))
+    passed_on c.from_residual.result _ c.in_err-goal.field-0.0 c.from_residual.ensures.1 (λ file told s r.
+    let i = c.loop-goal.invariant.reached file told s r in
+    goals_stop (core_of c.args.goals.now.core) file c.args.version c.loop-goal.lines.given c.loop-goal.goals _ i.0 ((c.in_err-goal.ensures {u = tt}).fault))
 
 pub returns-in_err-check_goal-clause-stop : goal.returns-in_err-check_goal-clause-stop
 returns-in_err-check_goal-clause-stop g c =
-    passed_on c.from_residual-in_err-check_goal.result _ c.in_err-check_goal.field-0.0 c.from_residual-in_err-check_goal.ensures.1 (λ claim file told s st h.
+    passed_on c.from_residual-in_err-check_goal.result _ c.in_err-check_goal.field-0.0 c.from_residual-in_err-check_goal.ensures.1 (λ file told s r.
     let v = c.loop-goal.invariant in
-    let i = v.stands claim file told s st h in
+    let i = v.reached file told s r in
     let k = rw c.in-Some.is at ((c.in_ok-goal.ensures {u = tt}).goal) in
-    let n : c.in-Some.goal.number ≡ c.loop-goal.count = k.1 ∙ v.count in
-    let here = subst (λ (x : ℕ). Stands claim file x c.loop-goal.lines.given) (sym n) (subst (λ (y : ℕ). Stands claim file c.loop-goal.count y) (sym v.given) i.0) in
-    (c.in_err-check_goal.ensures {u = tt}).stop claim file (told_moved _ _ _ _ _ v.same v.keeps.0 told) i.1 here (next_there claim c.loop-goal.goals.goals _ c.in-Some.goal c.loop-goal.count n i.2 k.0))
+    let first = c.args.goals.now.core in
+    let same : c.next_goal.new.goals.core ≡ first = k.went.same_core ∙ v.core in
+    let number : c.in-Some.goal.number ≡ c.loop-goal.goals.given = k.number in
+    let here = at_goal (core_of first) file c.args.version c.loop-goal.goals.given c.loop-goal.lines.given c.in-Some.goal c.loop-goal.goals.ahead _ i.0 k.comes in
+    let there = subst (λ (x : ℕ). AtGoal (core_of first) file c.args.version x c.loop-goal.lines.given c.in-Some.goal) (sym number) here in
+    subst (λ (x : Core). Stops (core_of x) file c.in_err-check_goal.field-0.0) same
+    ((c.in_err-check_goal.ensures {u = tt}).stop file (told_moved _ _ _ _ _ v.same v.keeps.0 told) i.1
+    (subst (λ (x : Core). AtGoal (core_of x) file c.args.version c.in-Some.goal.number c.loop-goal.lines.given c.in-Some.goal) (sym same) there)))
 
 pub loop-goal-preserved : goal.loop-goal-preserved
 loop-goal-preserved g c =
     let v = c.loop-goal.invariant in
     let a = c.in_ok-check_goal.ensures {u = tt} in
     let k = rw c.in-Some.is at ((c.in_ok-goal.ensures {u = tt}).goal) in
-    let n : c.in-Some.goal.number ≡ c.loop-goal.count = k.1 ∙ v.count in
-    let num : c.in-Some.goal.number ≡ c.number-count.result = sym c.number-count.ensures in
+    let first = c.args.goals.now.core in
+    let same : c.next_goal.new.goals.core ≡ first = k.went.same_core ∙ v.core in
+    let number : c.in-Some.goal.number ≡ c.loop-goal.goals.given = k.number in
     record {
       same = a.same ∙ v.same;
       asked = subst (λ (x : List ℕ). g.S.Shelf.CanAsk c.check_goal.new.shelf x) (sym a.keeps.0) ((a.rule c.loop-goal.lines.name).0 v.asked);
       rule = λ x. (λ q. (a.rule x).0 ((v.rule x).0 q), λ q. (v.rule x).1 ((a.rule x).1 q));
       later = omega (arith, v.later, a.later);
       keeps = (a.keeps.0 ∙ v.keeps.0, a.keeps.1 ∙ v.keeps.1, a.keeps.2 ∙ v.keeps.2);
-      count = omega (arith, k.4, k.1, num);
-      fit = k.6;
-      few = omega (arith, k.2, num);
-      given = omega (arith, a.given, v.given, n, num);
-      stands = λ claim file told s st h.
-          let i = v.stands claim file told s st h in
-          let here = subst (λ (x : ℕ). Stands claim file x c.loop-goal.lines.given) (sym n) (subst (λ (y : ℕ). Stands claim file c.loop-goal.count y) (sym v.given) i.0) in
-          let r = a.stands claim file (told_moved _ _ _ _ _ v.same v.keeps.0 told) i.1 here (next_there claim c.loop-goal.goals.goals _ c.in-Some.goal c.loop-goal.count n i.2 k.0) in
-          let e : c.loop-goal.lines.given + 1 ≡ c.in-Some.goal.number + 1 + 1 = omega (arith, v.given, n) in (
-            subst (λ (x : ℕ). Stands claim file (x + 1) (x + 1 + 1)) num (subst (λ (y : ℕ). Stands claim file (c.in-Some.goal.number + 1) y) e r.0),
-            r.1,
-            next_left claim c.loop-goal.goals.goals _ c.in-Some.goal c.in-Some.goal.number (i.2 ∙ (λ t. drop (sym n t) claim.goals)) k.0 ∙ (λ t. drop (num t + 1) claim.goals),
-            k.5 ∙ i.3,
+      core = a.went.same_core ∙ same;
+      rest = a.went.rest;
+      few = a.went.few;
+      given = omega (arith, a.given, v.given, a.went.more, k.last.number, k.number);
+      reached = λ file told s r.
+          let i = v.reached file told s r in
+          let here = subst (λ (x : ℕ). Reached (core_of first) file c.args.version x c.loop-goal.goals.ahead c.loop-goal.lines.given) (sym number) i.0 in
+          let comes = subst (λ (x : ℕ). next_goal c.loop-goal.goals.ahead x ≡ Gives c.in-Some.goal c.next_goal.new.goals.ahead) (sym number) k.comes in
+          let there = subst (λ (x : Core). Reached (core_of x) file c.args.version c.in-Some.goal.number c.loop-goal.goals.ahead c.loop-goal.lines.given) (sym same) here in
+          let w = a.stands file c.loop-goal.goals.ahead (told_moved _ _ _ _ _ v.same v.keeps.0 told) i.1 there comes in (
+            subst (λ (x : ℕ). Reached (core_of first) file c.args.version c.check_goal.new.goals.given c.check_goal.new.goals.ahead x) (sym a.given)
+                (subst (λ (x : Core). Reached (core_of x) file c.args.version c.check_goal.new.goals.given c.check_goal.new.goals.ahead (c.loop-goal.lines.given + 1)) same w.0),
+            w.1,
           );
     }
 
 pub returns-clause-stands : goal.returns-clause-stands
-returns-clause-stands g c claim file told s st h =
-    let i = c.loop-goal.invariant.stands claim file told s st h in
+returns-clause-stands g c file told s r =
+    let v = c.loop-goal.invariant in
+    let i = v.reached file told s r in
     let k = rw c.in_default.is at ((c.in_ok-goal.ensures {u = tt}).goal) in
-    (i.0, all_taken claim file c.loop-goal.count (c.loop-goal.count + 1) i.0 (sym i.2 ∙ k.0), sym i.3 ∙ k.1, i.1)
+    let n : c.given.result ≡ c.loop-goal.goals.given = c.given.ensures ∙ k.1 in
+    let first = c.args.goals.now.core in
+    let all = subst (λ (x : Core). c.loop-goal.goals.given ≡ length (goals (core_of x))) v.core (all_given c.loop-goal.goals v.rest k.0) in (
+      subst (λ (x : ℕ). ReachedEnd (core_of first) file x c.loop-goal.lines.given) (sym n)
+          (record { version = c.args.version; ahead = c.loop-goal.goals.ahead; reached = i.0; ends = k.0; all = all }),
+      i.1,
+    )

@@ -1,4 +1,4 @@
-use Rattle.std.proofs.Common.{◌∙◌, sym, subst}
+use Rattle.std.proofs.Common.{◌∙◌, inl, sym, subst}
 use Rattle.slice_check.specs.declared.answer.Stop.{Stop}
 use Rattle.slice_check.proofs.ReadLines.{line_read, refused_stops}
 use Rattle.slice_check.proofs.check.next_line.Goals as goal
@@ -11,20 +11,20 @@ returns-in-Ok-clause-line g c file told s =
     ((c.line.result.now, l, (c.in-Ok.ensures {u = tt}).line), a.stands file told s)
 
 pub returns-in-Err-BadLine-clause-stop : goal.returns-in-Err-BadLine-clause-stop
-returns-in-Err-BadLine-clause-stop g c claim file told s r =
+returns-in-Err-BadLine-clause-stop g c core file told s r =
     let a = c.in-Ok-true.ensures {u = tt} in
     let l = line_read c.args.lines.now c.advance.new.self file c.line.result.now c.in-Ok-true.field-0 c.requires.limits.0 c.requires.limits.1 c.in-Ok-true.field-0-test c.line.ensures (a.line file told s) in
     let n = rw c.in-Ok-true.field-0-test at a.given in
-    (c.args.lines.now.given, c.given.ensures ∙ n, r, (c.line.result.now, l, (c.in-Err-BadLine.ensures {u = tt}).bad c.in-Err-BadLine.field-0-is))
+    (c.args.lines.now.given, c.given.ensures ∙ n, inl (r, (c.line.result.now, l, (c.in-Err-BadLine.ensures {u = tt}).bad c.in-Err-BadLine.field-0-is)))
 
 pub returns-in-Ok-false-clause-stop : goal.returns-in-Ok-false-clause-stop
-returns-in-Ok-false-clause-stop g c claim file told s r =
+returns-in-Ok-false-clause-stop g c core file told s r =
     let a = c.in-Ok-false.ensures {u = tt} in
     let l = rw c.in-Ok-false.field-0-test at (a.line file told s) in
     (c.args.lines.now.given, r, l)
 
 pub returns-in-Err-clause-stop : goal.returns-in-Err-clause-stop
-returns-in-Err-clause-stop g c claim file told s r =
+returns-in-Err-clause-stop g c core file told s r =
     let a = c.in-Err.ensures {u = tt} in
-    subst (λ (x : Stop). Stops claim file x) (sym c.stop_of.ensures)
-    (refused_stops claim c.args.lines.now file c.in-Err.fault c.requires.limits.0 c.requires.limits.1 c.requires.few r (a.refused file told s))
+    subst (λ (x : Stop). Stops core file x) (sym c.stop_of.ensures)
+    (refused_stops core c.args.lines.now file c.in-Err.fault c.requires.limits.0 c.requires.limits.1 c.requires.few r (a.refused file told s))

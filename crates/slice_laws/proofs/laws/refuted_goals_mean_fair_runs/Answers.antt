@@ -1,5 +1,4 @@
-use Rattle.slice_top.proofs.Fair.{unsolved_fair}
-use Rattle.slice_laws.proofs.Refuted.{refuted_fair}
+use Rattle.slice_laws.proofs.Refuted.{unsolved_fair, refuted_fair}
 use Rattle.slice_laws.proofs.laws.refuted_goals_mean_fair_runs.Goals as goal
 
 pub returns-clause-unsolved : goal.returns-clause-unsolved

@@ -5,7 +5,7 @@ use Rattle.slice_paths.specs.Events.{events_of}
 use Rattle.slice_top.specs.Answers.{goals_answer}
 use Rattle.slice_top.specs.Settled.{Wrote, LinesStop}
 use Rattle.slice_top.specs.declared.stop.Stop.{Stop}
-use Rattle.slice_top.proofs.GoalLines.{Continues, begun, went_on, line_stopped, stopped_so, told_all, starved_all}
+use Rattle.slice_top.proofs.GoalLines.{Continues, begun, fewer_ahead, went_on, line_stopped, stopped_so, told_all, starved_all}
 use Rattle.slice_top.proofs.Stages.{rose_earlier}
 use Rattle.slice_top.proofs.goals.put_goals.Goals as goal
 
@@ -31,6 +31,10 @@ goals-preserved g c =
       wrote = subst (λ (n : ℕ). Wrote before after (Continues whole c.next.new.self.ahead n)) (sym more)
           (went_on whole before (g.K.Sink.told c.goals.sink) after c.goals.stream.ahead c.next.new.self.ahead c.goals.stream.given c.in-Ok-Some.goal c.goals.invariant.wrote next c.in-Ok-put_goal.ensures.ok);
     }
+
+pub goals-smaller : goal.goals-smaller
+goals-smaller g c =
+    fewer_ahead c.goals.stream.ahead c.goals.stream.given c.in-Ok-Some.goal c.next.new.self.ahead (rw c.in-Ok-Some.field-0-is at c.in-Ok-Some.ensures.ok)
 
 pub returns-in-Err-put_goal-clause-err : goal.returns-in-Err-put_goal-clause-err
 returns-in-Err-put_goal-clause-err g c =

@@ -1,0 +1,19 @@
+use Rattle.std.proofs.Common.{arith, List, sym, subst}
+use Rattle.slice_core.specs.Nodes.{tree_of}
+use Rattle.slice_paths.specs.Walking.{CanGo}
+use Rattle.slice_paths.proofs.GoLaws.{sets}
+use Rattle.slice_paths.proofs.RetraceLaws.{set_strode}
+use Rattle.slice_paths.proofs.retrace.stride_set.Goals as goal
+
+pub returns : goal.returns
+returns c = λ n r cs old h.
+    (let a = c.args in
+    let next = tree_of a.next.now in
+    let k = c.in-Ok.ensures.ok h.known in
+    record {
+      ready = record { known = k.known; goes = subst (CanGo n next) (sym c.in-Ok.ensures.tally) (sets n r a.sum.now next _ h.goes) };
+      deeper = omega arith;
+      made = omega arith;
+      all_ready = λ x. x;
+      strode = λ fs ks ds at. set_strode n cs old fs ks ds r a.sum.now next a.spot c.set.new.self k at;
+    })
