@@ -17,7 +17,7 @@ IsRefutation (Refutation goal multipliers) = ⊤
 IsRefutation (Cover goal passed multipliers) = ⊥
 IsRefutation (Closing goals) = ⊥
 
--- the line is one for the goals that follow some choices
+-- the line is one for a goal and all later ones that follow the same choices
 abbrev pub IsCover : Line → Type 0
 IsCover (Header version protocol agents) = ⊥
 IsCover (Refutation goal multipliers) = ⊥

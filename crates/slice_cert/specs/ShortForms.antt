@@ -18,7 +18,7 @@ used (m ∷ ms) = counted_from m (used ms)
 abbrev pub needed : ℕ → List ℤ → ℕ
 needed agents ms = used ms - (1 + agents)
 
--- the goal's line where the multiplier of its own row, the last, isn't 0; else the line that covers all goals with the same
--- choices, as few of them as the multipliers need
+-- the goal's line where the multiplier of its own row, the last, isn't 0; else the line that covers this goal and all later
+-- ones with the same first choices, as few choices as the multipliers need
 abbrev pub short_line : (agents goal : ℕ) → List ℤ → Line
 short_line agents goal ms = if used ms == length ms then Refutation goal ms else Cover goal (needed agents ms) (take (1 + agents + needed agents ms) ms)

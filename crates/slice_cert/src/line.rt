@@ -21,10 +21,10 @@ pub enum Line {
         /// A multiplier for each row of the goal, in the order of the rows.
         multipliers: Items<i128>,
     },
-    /// A line for all goals that follow a goal's first passed choices, as
+    /// The line of a goal and of all later ones with the same first passed choices, as
     /// `{"cover":1,"goal":0,"multipliers":["1","0","0","1"]}`. Only certificates of version 2 have such lines.
     Cover {
-        /// The number of the first of these goals, from 0.
+        /// The number of that goal, from 0.
         goal: u64,
         /// How many choices were passed.
         passed: u32,

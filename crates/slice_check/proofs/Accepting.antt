@@ -13,11 +13,11 @@ use Rattle.slice_check.specs.Certificate.{Accepts, AllPass, AreLines, AreShort, 
 use Rattle.slice_check.proofs.Ahead.{none_left, taken}
 
 -- ---- one more line
-says_more : (file : List ℕ) (ls : List Line) (i : ℕ) (l : Line) → SaysLines file i ls → SaysLine file (i + length ls) l → SaysLines file i (ls ++ l ∷ [])
+pub says_more : (file : List ℕ) (ls : List Line) (i : ℕ) (l : Line) → SaysLines file i ls → SaysLine file (i + length ls) l → SaysLines file i (ls ++ l ∷ [])
 says_more file [] i l s h = let e : i + 0 ≡ i = omega arith in (subst (λ (k : ℕ). SaysLine file k l) e h, tt)
 says_more file (x ∷ ls) i l s h = let e : i + suc (length ls) ≡ (i + 1) + length ls = omega arith in (s.0, says_more file ls (i + 1) l s.1 (subst (λ (k : ℕ). SaysLine file k l) e h))
 
-pass_more : (core : Core) (version n k m : ℕ) (ahead mid later : List Event) (ls : List Line) (l : Line) → AllPass core version n ahead ls k mid → Passes core version k mid l m later → AllPass core version n ahead (ls ++ l ∷ []) m later
+pub pass_more : (core : Core) (version n k m : ℕ) (ahead mid later : List Event) (ls : List Line) (l : Line) → AllPass core version n ahead ls k mid → Passes core version k mid l m later → AllPass core version n ahead (ls ++ l ∷ []) m later
 pass_more core version n k m ahead mid later [] l p q =
     (m, later, subst (λ (es : List Event). Passes core version n es l m later) p.1 (subst (λ (j : ℕ). Passes core version j mid l m later) p.0 q), (refl, refl))
 pass_more core version n k m ahead mid later (x ∷ ls) l p q = (p.0, p.1, p.2, pass_more core version p.0 k m p.1 mid later ls l p.3 q)
@@ -25,7 +25,7 @@ pass_more core version n k m ahead mid later (x ∷ ls) l p q = (p.0, p.1, p.2, 
 pub stands_first : (core : Core) (file : List ℕ) (version : ℕ) → IsVersion version → SaysLine file 0 (Header version core.name core.agents) → Stands core file version 0 (events_of core) 1
 stands_first core file version known s = record { header = s; known = known; body = []; lines = tt; next = refl; passes = (refl, refl) }
 
-pub stands_next : (core : Core) (file : List ℕ) (version n m i : ℕ) (ahead later : List Event) (l : Line) → Stands core file version n ahead i → SaysLine file i l → Passes core version n ahead l m later → Stands core file version m later (i + 1)
+unfoldable pub stands_next : (core : Core) (file : List ℕ) (version n m i : ℕ) (ahead later : List Event) (l : Line) → Stands core file version n ahead i → SaysLine file i l → Passes core version n ahead l m later → Stands core file version m later (i + 1)
 stands_next core file version n m i ahead later l st s p =
     let place : i ≡ 1 + length st.body = omega (arith, st.next) in
     record {

@@ -23,7 +23,7 @@ use Rattle.slice_check.specs.declared.verdict.Verdict.TheVariants.{Yes}
 use Rattle.slice_check.proofs.RowsAt.{one_width}
 
 -- ---- the next goal
-contains_dropped : (n : ℕ) (xs : List Goal) (x : Goal) (rest : List Goal) → drop n xs ≡ x ∷ rest → Contains xs x
+pub contains_dropped : (n : ℕ) (xs : List Goal) (x : Goal) (rest : List Goal) → drop n xs ≡ x ∷ rest → Contains xs x
 contains_dropped zero xs x rest e = subst (λ (ys : List Goal). Contains ys x) (sym e) (0, omega arith, refl)
 contains_dropped (suc n) [] x rest e = absurd cc
 contains_dropped (suc n) (y ∷ xs) x rest e = let h = contains_dropped n xs x rest e in (suc h.0, omega (arith, h.1), h.2)
@@ -52,7 +52,7 @@ share_more core passed trace g gs n s h =
     subst (ShareFirst core passed trace (g ∷ gs)) one (omega (arith, h.0), All-cons (Shares core passed trace) g (take n gs) s h.1, h.2)
 
 -- those after the goal given last, and it
-share_with : (s : Stream) (g : Goal) (passed n : ℕ) → IsGivenLast s g → ShareFirst (core_of s.core) passed s.last (drop s.given (goals (core_of s.core))) n
+pub share_with : (s : Stream) (g : Goal) (passed n : ℕ) → IsGivenLast s g → ShareFirst (core_of s.core) passed s.last (drop s.given (goals (core_of s.core))) n
     → ShareFirst (core_of s.core) passed g.trace (drop g.number (goals (core_of s.core))) (n + 1)
 share_with s g passed n l h =
     let core = core_of s.core in

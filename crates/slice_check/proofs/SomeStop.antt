@@ -45,7 +45,7 @@ use Rattle.slice_check.proofs.Telling.{tell_same}
 -- ---- a line
 
 -- what comes at line i: the end, a line that is too long or lies past the file's limit, bytes that are no line, or a line
-data Comes (file : List ℕ) (i : ℕ) : Type 0 where
+pub data Comes (file : List ℕ) (i : ℕ) : Type 0 where
   ended : rest_from i file ≡ [] → Comes file i
   long : LineRefused line_limit file_limit file i (line_fault.LineTooLong (i + 1)) → Comes file i
   past : LineRefused line_limit file_limit file i line_fault.TooLong → Comes file i
@@ -62,7 +62,7 @@ read_as file i text is = elim (tell_line text) [
   | inr none ↦ bad text is (λ l h. none (l, h))
 ]
 
-comes : (file : List ℕ) (i : ℕ) → i < 2000000 → Comes file i
+pub comes : (file : List ℕ) (i : ℕ) → i < 2000000 → Comes file i
 comes file i few = elim (some_left (rest_from i file)) [
   | inl none ↦ ended none
   | inr some ↦ elim (cases_lt line_limit (length (first_line (rest_from i file)))) [
@@ -85,7 +85,7 @@ one_width w [] h i lt = absurd (omega (arith, lt))
 one_width w (r ∷ rows) h i lt = ap length (coefs_is (r ∷ rows) i r lt) ∙ h i r lt ∙ sym (h 0 r (omega arith))
 
 -- so are the rows of a goal of a core
-goal_width : (core : Core) (n : ℕ) (g : Goal) (rest : List Goal) → drop n (goals core) ≡ g ∷ rest → HaveOneWidth g.rows
+pub goal_width : (core : Core) (n : ℕ) (g : Goal) (rest : List Goal) → drop n (goals core) ≡ g ∷ rest → HaveOneWidth g.rows
 goal_width core n g rest e = one_width (1 + core.agents * atom_count (way_of core g.trace).cake) g.rows (rows_over_unknowns core g (n, there, is))
   where
     there : n < length (goals core)

@@ -63,6 +63,12 @@ plain_next file version i g ahead m s r comes last says v =
     reached_next (core_of s.core) file version g.number i s.given ahead s.ahead (Refutation g.number m) 1 r says (g, comes, refl, v, last.number) (omega (arith, some))
     (refl, refl, subst (λ (xs : List Goal). RefutesFirst xs m) (sym last.stands) v.0) last.number
 
+-- and that line stands behind the others
+pub plain_body : (file : List ℕ) (version i : ℕ) (g : Goal) (ahead : List Event) (m : List ℤ) (s : Stream) (r : Reached (core_of s.core) file version g.number ahead i) (comes : next_goal ahead g.number ≡ Gives g s.ahead) (last : IsGivenLast s g)
+    (says : SaysLine file i (Refutation g.number m)) (v : IsVerdict g.rows m Yes) → (plain_next file version i g ahead m s r comes last says v).stands.body ≡ r.stands.body ++ Refutation g.number m ∷ []
+unfolding plain_next reached_next
+plain_body file version i g ahead m s r comes last says v = refl
+
 -- after a line that takes all that follow its passed choices
 pub cover_next : (file : List ℕ) (version i passed : ℕ) (g : Goal) (ahead : List Event) (m : List ℤ) (s t : Stream) → Reached (core_of s.core) file version g.number ahead i → next_goal ahead g.number ≡ Gives g s.ahead → IsGivenLast s g
     → SaysLine file i (Cover g.number passed m) → version ≡ 2 → IsCovered s g passed m t → t.given ≤ 1000000 → Reached (core_of s.core) file version t.given t.ahead (i + 1)

@@ -50,19 +50,19 @@ ended_long file i p q = let n : length (first_line (rest_from i file)) ≡ 0 = a
 ended_past : (file : List ℕ) (i : ℕ) → start_of i file ≤ file_limit → Comes file i Ended → Comes file i Past → ⊥
 ended_past file i s p q = let n : line_bytes (rest_from i file) ≡ 0 = ap line_bytes p in omega (arith, n, s, q.0)
 
-ended_line : (file : List ℕ) (i : ℕ) (text : List ℕ) → Comes file i Ended → LineIs line_limit file_limit file i (Some text) → ⊥
+pub ended_line : (file : List ℕ) (i : ℕ) (text : List ℕ) → Comes file i Ended → LineIs line_limit file_limit file i (Some text) → ⊥
 ended_line file i text p q = let n : length (rest_from i file) ≡ 0 = ap length p in omega (arith, n, q.0)
 
 long_past : (file : List ℕ) (i : ℕ) → Comes file i Long → Comes file i Past → ⊥
 long_past file i p q = let late = q.1 p.1.1 in omega (arith, late, p.1.2)
 
-long_line : (file : List ℕ) (i : ℕ) (text : List ℕ) → Comes file i Long → LineIs line_limit file_limit file i (Some text) → ⊥
+pub long_line : (file : List ℕ) (i : ℕ) (text : List ℕ) → Comes file i Long → LineIs line_limit file_limit file i (Some text) → ⊥
 long_line file i text p q = omega (arith, ap length q.1, q.2, p.1.1)
 
-past_line : (file : List ℕ) (i : ℕ) (text : List ℕ) → Comes file i Past → LineIs line_limit file_limit file i (Some text) → ⊥
+pub past_line : (file : List ℕ) (i : ℕ) (text : List ℕ) → Comes file i Past → LineIs line_limit file_limit file i (Some text) → ⊥
 past_line file i text p q = omega (arith, p.0, q.3)
 
-bad_says : (file : List ℕ) (i : ℕ) (l : Line) → Comes file i Bad → SaysLine file i l → ⊥
+pub bad_says : (file : List ℕ) (i : ℕ) (l : Line) → Comes file i Bad → SaysLine file i l → ⊥
 bad_says file i l p q = p.2 l (subst (λ (t : List ℕ). IsLine t l) (q.1.1 ∙ sym p.1.1) q.2)
 
 one_outcome : (file : List ℕ) (i : ℕ) (a b : Outcome) → start_of i file ≤ file_limit → Comes file i a → Comes file i b → a ≡ b

@@ -21,8 +21,8 @@ file_limit = 268435456
 
 -- ---- certificates
 
--- the versions of certificates: a line of the first refutes one goal; the second has lines, too, that refute all goals with
--- the same first passed choices
+-- the versions of certificates: a line of the first refutes one goal; the second has lines, too, that refute the next goal
+-- and all later ones with the same first passed choices
 abbrev pub IsVersion : ℕ → Type 0
 IsVersion version = (version ≡ 1) ⊎ (version ≡ 2)
 

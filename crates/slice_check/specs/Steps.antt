@@ -101,12 +101,12 @@ stop_for n (verdict.Sum unknown) = Some (stop.Rejected (rejection.Sum n unknown)
 stop_for n verdict.NoStrict = Some (stop.Rejected (rejection.NoStrict n))
 stop_for n (verdict.Overflow unknown) = Some (stop.Failed (cert_fault.Overflow n unknown))
 
--- what the line takes where goal n comes next: that goal, or all that follow passed choices
+-- what the line takes where goal n comes next: that goal, or it and all later ones with the same first passed choices
 abbrev pub IsTaking : Line → (version n : ℕ) → Taking → Type 0
 IsTaking line version n (taking.Goal m) = line ≡ Refutation n m
 IsTaking line version n (taking.Front passed m) = (version ≡ 2) × (line ≡ Cover n passed m)
 
--- what a line that takes nothing there means, where it is line `at`
+-- what a line that takes nothing there means, by its number
 abbrev pub IsOther : Line → (version n : ℕ) → ℕ → Stop → Type 0
 IsOther (Header v protocol agents) version n line s = s ≡ stop.Rejected (rejection.GoalOrder line)
 IsOther (Refutation goal multipliers) version n line s = (goal ≢ n) × (s ≡ stop.Rejected (rejection.GoalOrder line))
@@ -136,7 +136,7 @@ end_stop_of (line_fault.LineTooLong line) = stop.Rejected (rejection.Extra line)
 end_stop_of line_fault.TooLong = stop.Failed cert_fault.TooLong
 end_stop_of line_fault.Memory = stop.Failed cert_fault.Memory
 
--- what another line than the closing line with that count means, where it is line `at`
+-- what another line than the closing line with that count means, by its number
 abbrev pub IsNoTotal : Line → ℕ → ℕ → Stop → Type 0
 IsNoTotal (Header version protocol agents) count line s = s ≡ stop.Rejected (rejection.Extra line)
 IsNoTotal (Refutation goal multipliers) count line s = s ≡ stop.Rejected (rejection.Extra line)

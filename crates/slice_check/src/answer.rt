@@ -32,13 +32,14 @@ pub enum Rejection {
     ClosingDiffers { line: u64 },
     /// The file ends before the closing line.
     NotClosed,
-    /// The goal has more rows than multipliers, or fewer.
+    /// There are more rows than multipliers, or fewer: of the goal, or behind the choices of its cover line; or the goal passed
+    /// fewer choices than that line says.
     Length { goal: u64 },
-    /// A multiplier of the goal has a sign that its row does not take.
+    /// A multiplier has a sign that its row does not take.
     Sign { goal: u64, row: usize },
-    /// The weighted sum of an unknown of the goal is above 0.
+    /// The weighted sum of an unknown is above 0. Behind the choices of a cover line the unknowns are over the atoms there.
     Sum { goal: u64, unknown: usize },
-    /// No Above row of the goal has a multiplier above 0.
+    /// No Above row has a multiplier above 0.
     NoStrict { goal: u64 },
 }
 
@@ -58,11 +59,11 @@ pub enum CertFault {
     ReadFault,
     /// The line that is read goes past the bytes that a file may have.
     TooLong,
-    /// A further goal would be the 1,000,001st.
+    /// A further goal would be the 1,000,001st, one that a cover line takes included.
     GoalLimit,
     /// After so many goals a number of the rows does not fit.
     FormOverflow { goal: u64 },
-    /// A number of the sum of an unknown of the goal does not fit.
+    /// A number of the sum of an unknown does not fit, the unknowns being those of `Rejection::Sum`.
     Overflow { goal: u64, unknown: usize },
     /// Memory ran out.
     Memory,

@@ -1,5 +1,5 @@
 //! The checker: it reads a line at a time, and holds one line and one goal.
-ghost use Rattle.std.specs.Prelude.{◌≡◌, ◌≢◌, ◌↔◌, ℕ, ◌+◌, ◌<◌, ◌≤◌, List, [], IfOk, IfErr, IsErr, IsTrue, OnOk, MatchOption, None, Some, Ok, Err};
+ghost use Rattle.std.specs.Prelude.{◌≡◌, ◌≢◌, ◌⊎◌, ◌↔◌, ℕ, ◌+◌, ◌<◌, ◌≤◌, List, [], IfOk, IfErr, IsErr, IsTrue, OnOk, MatchOption, None, Some, Ok, Err};
 ghost use Rattle.slice_core.specs.Cores.{core_of};
 ghost use Rattle.slice_core.specs.Tree.{Core as CoreOf};
 ghost use Rattle.slice_io.specs.Causes.{Rose};
@@ -8,6 +8,9 @@ ghost use Rattle.slice_io.specs.Lines.{StandsIn, IsSameReader, rest_from};
 ghost use Rattle.slice_paths.specs.Events.{Event, Gives, NoMore, events_of, next_goal};
 ghost use Rattle.slice_paths.specs.Fronts.{front_of};
 ghost use Rattle.slice_paths.specs.Streams.{TellsRest, IsGivenLast};
+ghost use Rattle.slice_cert.specs.CertLines.{MayStand};
+ghost use Rattle.slice_cert.specs.declared.line.Line.{Line as LineOf};
+ghost use Rattle.slice_check.specs.Upgrading.{IsMoot};
 ghost use Rattle.slice_check.specs.Verdicts.{HaveOneWidth, IsVerdict};
 ghost use Rattle.slice_check.specs.Certificate.{IsVersion, SaysLine, IsRead, AtGoal, AtEnd, IsClosed, line_limit, file_limit};
 ghost use Rattle.slice_check.specs.Faults.{Fails, HeaderDiffers, IsAnswer, IsUnread};
@@ -26,13 +29,17 @@ use sqlite_items::Items;
 use std::alloc::Global;
 
 // How many bytes a line may have without its LF.
-const LINE_LIMIT: u64 = 1_048_576;
+pub(crate) const LINE_LIMIT: u64 = 1_048_576;
 
 // How many bytes a file may have.
-const FILE_LIMIT: u64 = 268_435_456;
+pub(crate) const FILE_LIMIT: u64 = 268_435_456;
 
 // The next line.
-fn next_line<S: Shelf>(alloc: Global, shelf: &mut S, lines: &mut LineReader) -> Result<Line, Stop>
+pub(crate) fn next_line<S: Shelf>(
+    alloc: Global,
+    shelf: &mut S,
+    lines: &mut LineReader,
+) -> Result<Line, Stop>
     requires asked { S.CanAsk shelf.old lines.old.name }
     requires limits { (lines.old.line_limit ≡ line_limit) × (lines.old.limit ≡ file_limit) }
     requires few { lines.old.given < 2000000 }
@@ -41,6 +48,9 @@ fn next_line<S: Shelf>(alloc: Global, shelf: &mut S, lines: &mut LineReader) -> 
     ensures given { OnOk result (lines.new.given ≡ lines.old.given + 1) }
     ensures stop { IfErr result (λ s. (core : CoreOf) (file : List ℕ) → told_file (S.told shelf.old) lines.old.name ≡ Some (Some file) → StandsIn lines.old file
         → IsRead core file lines.old.given → Stops core file s) }
+    ensures may { IfOk result (λ l. MayStand l) }
+    ensures none { IfErr result (λ s. (file : List ℕ) → told_file (S.told shelf.old) lines.old.name ≡ Some (Some file) → StandsIn lines.old file
+        → IsMoot s ⊎ ((l : LineOf) → SaysLine file lines.old.given l → ⊥)) }
     ensures missing { told_file (S.told shelf.old) lines.old.name ≡ Some None → lines.old.ahead ≡ [] → result ≡ Err (Stop.Failed CertFault.ReadFault) }
     ensures read { result ≡ Err (Stop.Failed CertFault.ReadFault) → Rose (S.faults shelf.old) (S.faults shelf.new) }
     ensures keeps { IsSameReader lines.old lines.new }
@@ -103,7 +113,7 @@ fn check_header<S: Shelf>(
 }
 
 // The version of the header that the line is, or the first thing in which it differs.
-fn version_of(line: &Line, protocol: &Word, agents: u32) -> Result<u32, HeaderField>
+pub(crate) fn version_of(line: &Line, protocol: &Word, agents: u32) -> Result<u32, HeaderField>
     ensures ok { IfOk result (λ v. IsVersion v × (line.now ≡ Line.Header v protocol.now agents)) }
     ensures differs { IfErr result (λ f. HeaderDiffers protocol.now agents line.now f) }
 {
@@ -136,7 +146,7 @@ fn is_version(version: u32) -> bool
 
 // What a line takes.
 #[derive(Drop)]
-enum Taking {
+pub(crate) enum Taking {
     // The next goal.
     Goal(Items<i128>),
     // All goals that follow its first so many passed choices.
@@ -182,7 +192,7 @@ fn check_goal<S: Shelf>(
 }
 
 // What the line, which is the one numbered `at`, takes where that goal comes next.
-fn taking_of(line: Line, version: u32, goal: u64, at: u64) -> Result<Taking, Stop>
+pub(crate) fn taking_of(line: Line, version: u32, goal: u64, at: u64) -> Result<Taking, Stop>
     ensures ok { IfOk result (λ t. IsTaking line version goal t) }
     ensures stop { IfErr result (λ s. IsOther line version goal at s) }
 {
@@ -246,7 +256,7 @@ fn pass_over(goal: &Goal, passed: u32, goals: &mut GoalStream<'_>) -> Result<(),
 }
 
 // Whether the multipliers refute the rows of that goal, or those on the way to it.
-fn judge(rows: &[Row], goal: u64, multipliers: &[i128]) -> Result<(), Stop>
+pub(crate) fn judge(rows: &[Row], goal: u64, multipliers: &[i128]) -> Result<(), Stop>
     requires rows { HaveOneWidth rows.now }
     ensures ok { OnOk result (IsVerdict rows.now multipliers.now Verdict.Yes) }
     ensures stop { IfErr result (λ s. (v : Verdict) × (stop_for goal v ≡ Some s) × IsVerdict rows.now multipliers.now v) }
@@ -378,7 +388,7 @@ fn check_goals<S: Shelf>(
 }
 
 // The next goal.
-fn next_goal(goals: &mut GoalStream<'_>) -> Result<Option<Goal>, Stop>
+pub(crate) fn next_goal(goals: &mut GoalStream<'_>) -> Result<Option<Goal>, Stop>
     requires rest { TellsRest goals.old }
     ensures goal { IfOk result (λ o. MatchOption o ((next_goal goals.old.ahead goals.old.given ≡ NoMore) × (goals.new.given ≡ goals.old.given)) (λ g. IsNext goals.old g goals.new)) }
     ensures fault { IfErr result (λ s. IsGoalStop goals.old s) }
@@ -395,7 +405,7 @@ fn next_goal(goals: &mut GoalStream<'_>) -> Result<Option<Goal>, Stop>
 }
 
 // Reads the closing line, after which nothing may come.
-fn check_closing<S: Shelf>(
+pub(crate) fn check_closing<S: Shelf>(
     alloc: Global,
     count: u64,
     shelf: &mut S,

@@ -1,5 +1,5 @@
 //! Laws of the definitions that contracts cite. Each function does nothing: its clause is the law.
-ghost use Rattle.std.specs.Prelude.{◌≡◌, ℕ, ℤ, List};
+ghost use Rattle.std.specs.Prelude.{◌≡◌, ℕ, ℤ, List, [], Some};
 ghost use Rattle.std.specs.List.{All};
 ghost use Rattle.slice_num.specs.declared.cut_answer.CutAnswer.{CutAnswer};
 ghost use Rattle.slice_core.specs.Agents.{HasAgents};
@@ -17,6 +17,8 @@ ghost use Rattle.slice_check.specs.declared.answer.CertFault.{CertFault};
 ghost use Rattle.slice_check.specs.declared.answer.Rejection.{Rejection};
 ghost use Rattle.slice_check.specs.Certificate.{Accepts};
 ghost use Rattle.slice_check.specs.Faults.{Fails, IsAnswer, IsUnread, Rejects};
+ghost use Rattle.slice_check.specs.Upgrades.{UpgradeFails, UpgradeIs};
+ghost use Rattle.slice_check.specs.declared.upgrade.UpgradeFault.TheVariants.{Cert};
 
 /// A file with which something is wrong is no certificate.
 pub fn rejected_is_no_certificate()
@@ -45,4 +47,13 @@ pub fn one_thing_is_said_of_a_file()
     ensures answers { (core : Core) (file : List ℕ) (a b : CertAnswer) → IsAnswer core file a → IsAnswer core file b → a ≡ b }
     ensures faults { (core : Core) (file : List ℕ) (f g : CertFault) → (IsUnread f → ⊥) → (IsUnread g → ⊥) → Fails core file f → Fails core file g → f ≡ g }
     ensures either { (core : Core) (file : List ℕ) (a : CertAnswer) (f : CertFault) → IsAnswer core file a → Fails core file f → IsUnread f }
+{}
+
+/// What is written of a file by the upgrade, and answered, is one: one answer with one text, or one fault with one, want of memory
+/// and failed reads aside.
+pub fn one_thing_is_written_of_a_file()
+    ensures answers { (core : Core) (file : List ℕ) (a b : CertAnswer) (xs ys : List ℕ) → UpgradeIs core file (Some []) (Some xs) a → UpgradeIs core file (Some []) (Some ys) b → (a ≡ b) × (xs ≡ ys) }
+    ensures faults { (core : Core) (file : List ℕ) (f g : CertFault) (xs ys : List ℕ) → (IsUnread f → ⊥) → (IsUnread g → ⊥)
+        → UpgradeFails core file (Some []) (Some xs) (Cert f) → UpgradeFails core file (Some []) (Some ys) (Cert g) → (f ≡ g) × (xs ≡ ys) }
+    ensures either { (core : Core) (file : List ℕ) (a : CertAnswer) (f : CertFault) (xs ys : List ℕ) → UpgradeIs core file (Some []) (Some xs) a → UpgradeFails core file (Some []) (Some ys) (Cert f) → IsUnread f }
 {}

@@ -1,5 +1,6 @@
 // Worked verdicts: that the clauses say what is meant.
 mod certificates;
+mod upgrades;
 
 ghost use Rattle.std.specs.Prelude.{◌≡◌, length, IsTrue};
 ghost use Rattle.slice_check.specs.Verdicts.{HaveOneWidth};

@@ -22,12 +22,11 @@ use Rattle.slice_cert.specs.CertLines.{MayStand, line_text}
 use Rattle.slice_cert.specs.ShortForms.{needed, short_line, used}
 use Rattle.slice_cert.proofs.Used.{short_is}
 use Rattle.slice_check.specs.Certificate.{Accepts, line_limit}
+use Rattle.slice_check.specs.Upgrading.{AllBrief, AllReadBack, ReadsBack}
+use Rattle.slice_check.proofs.Certified.{certified}
+use Rattle.slice_check.proofs.RowCount.{few_rows}
+use Rattle.slice_check.proofs.Short.{short_line_short}
 use Rattle.slice_verify.specs.Report.{AreTaken, IsTaken, pivot_limit, texts_after}
-use Rattle.slice_verify.specs.Working.{ReadsBack}
-use Rattle.slice_verify.proofs.Accepted.{certified}
-use Rattle.slice_verify.proofs.RowCount.{few_rows}
-use Rattle.slice_verify.proofs.Short.{short_line_short}
-use Rattle.slice_verify.proofs.Standing.{AllReadBack, AllShort}
 use Rattle.slice_top.specs.Answers.{Answer, Closes, IsVerifyAnswer}
 use Rattle.slice_top.specs.declared.status.Status.TheVariants as status
 use Rattle.slice_top.proofs.Decided.{texts_on}
@@ -53,7 +52,7 @@ given_fit rows m are is i d lt =
 -- ---- lines
 
 -- the short form of a line may stand in a certificate
-may_stand : (agents n : ℕ) (m : List ℤ) → n < 1000000 → length m ≤ 529 → All Fits m → MayStand (short_line agents n m)
+pub may_stand : (agents n : ℕ) (m : List ℤ) → n < 1000000 → length m ≤ 529 → All Fits m → MayStand (short_line agents n m)
 may_stand agents n m goal few fit =
     short_is MayStand agents n m (λ e. (omega (arith, goal), fit))
     (λ lt. (omega (arith, goal), (let front : needed agents m ≤ used m = omega arith in omega (arith, few, lt, front)), All-take Fits (1 + agents + needed agents m) m fit))
@@ -61,7 +60,7 @@ may_stand agents n m goal few fit =
 -- each line reads back, and none is too long
 record AreRight (ls : List Line) : Type 0 where
   read : AllReadBack ls
-  short : AllShort ls
+  short : AllBrief ls
 
 all_right : (core : Core) → IsWellFormed core → (n : ℕ) (ahead : List Event) (ls : List Line) (m : ℕ) (later : List Event) → Stands core n ahead → AreTaken core n ahead ls m later → AreRight ls
 all_right core formed n ahead [] m later s h = record { read = tt; short = tt }

@@ -14,5 +14,6 @@ mod Shown
 mod SomeAnswers
 mod ToldRuns
 mod UniqueAnswers
+mod Upgraded
 mod Verified
 mod Written

@@ -37,8 +37,8 @@ use Rattle.slice_paths.specs.Events.{events_of}
 use Rattle.slice_report.specs.CoreReport.{core_json}
 use Rattle.slice_report.specs.declared.refusal.Refusal.{Refusal}
 use Rattle.slice_report.specs.declared.refusal.Refusal.TheVariants as refusal
-use Rattle.slice_top.specs.Answers.{Answer, answer_of, one_line, refused, Stage, stops, goes, WithFile, WithProgram, WithCore, OfText, IsPrintAnswer, IsCheckAnswer, IsPathsAnswer, goals_answer, IsVerifyAnswer, IsRunAnswer, IsReplayAnswer, IsCertifyAnswer, TellsLeastRun, TellsGivenRun, IsOutcome, AfterReport, IsDemoAnswer}
-use Rattle.slice_top.specs.Commands.{check, print, paths, verify, run, replay, certify, demo}
+use Rattle.slice_top.specs.Answers.{Answer, answer_of, one_line, refused, Stage, stops, goes, WithFile, WithProgram, WithCore, OfText, IsPrintAnswer, IsCheckAnswer, IsPathsAnswer, goals_answer, IsVerifyAnswer, IsRunAnswer, IsReplayAnswer, IsCertifyAnswer, IsUpgradeAnswer, after_text, TellsLeastRun, TellsGivenRun, IsOutcome, AfterReport, IsDemoAnswer}
+use Rattle.slice_top.specs.Commands.{check, print, paths, verify, run, replay, certify, upgrade, demo}
 use Rattle.slice_top.specs.Cores.{RefusesCore, IsCoreOf}
 use Rattle.slice_top.specs.Demos.{AcceptsReport, RefusesReport, last_line, report_name}
 use Rattle.slice_top.specs.FilesRead.{IsFileOf, RefusesFile, limit}
@@ -54,14 +54,15 @@ use Rattle.slice_check.specs.Faults.{IsAnswer as CheckAnswer}
 use Rattle.slice_check.specs.declared.answer.CertAnswer.{CertAnswer}
 use Rattle.slice_check.specs.declared.answer.CertAnswer.TheVariants.{Accepted, Rejected}
 use Rattle.slice_check.specs.declared.answer.CertFault.{CertFault}
-use Rattle.slice_check.specs.declared.answer.CertFault.TheVariants as cert_fault
 use Rattle.slice_check.proofs.Exclusive.{rejected_is_no_certificate}
 use Rattle.slice_check.proofs.SomeStop.{files_decided}
 use Rattle.slice_gen.specs.Rounds.{rounds_text}
 use Rattle.slice_report.specs.DemoReport.{demo_json}
 use Rattle.slice_core.specs.WellFormed.{IsWellFormed}
 use Rattle.slice_report.specs.CertifyReport.{certify_json}
-use Rattle.slice_top.specs.Certificates.{SaysOfFile, ChecksFile, RefusesCertificate, missing, given_up, checker_refusal, checked_status}
+use Rattle.slice_top.specs.Certificates.{SaysOfFile, ChecksFile, RefusesCertificate, absent, missing, given_up, checker_refusal, checked_status}
+use Rattle.slice_top.proofs.CheckedFiles.{checker_refused, says_of}
+use Rattle.slice_top.proofs.Upgraded.{written_on}
 use Rattle.slice_laws.proofs.CertifiedReports.{good_is_accepted}
 use Rattle.slice_top.proofs.SomeDecisions.{some_verified}
 use Rattle.slice_laws.proofs.FileFaults.{replay_found, fault_not_memory, replay_fault_not_memory}
@@ -221,21 +222,10 @@ some_given text bytes p c is made =
 
 -- ---- certificates
 
-checker_refused : (name : List ℕ) (f : CertFault) → (IsUnread f → ⊥) → (r : Refusal) × (checker_refusal name f ≡ Some r)
-checker_refused name cert_fault.ReadFault h = absurd (h tt)
-checker_refused name cert_fault.TooLong h = (refusal.TooLong name, refl)
-checker_refused name cert_fault.GoalLimit h = (refusal.GoalLimit, refl)
-checker_refused name (cert_fault.FormOverflow goal) h = (refusal.FormOverflow goal, refl)
-checker_refused name (cert_fault.Overflow goal unknown) h = (refusal.CheckOverflow goal unknown, refl)
-checker_refused name cert_fault.Memory h = absurd (h tt)
-
 module _ (files : Files) (name : List ℕ) (core : Core) where
   -- what is said of its bytes is said of the file
   pub of_file : (bytes : List ℕ) (Says : List ℕ → Type 0) → file_of name files ≡ Some bytes → Says bytes → SaysOfFile (Some files) name Says
-  of_file bytes Says e h = record {
-    there = λ none. let bad : Some (Some bytes) ≡ Some None = sym (ap Some e) ∙ none in cc;
-    says = λ others told. let same : Some (Some bytes) ≡ Some (Some others) = sym (ap Some e) ∙ told in let one : bytes ≡ others = cc in subst Says one h;
-  }
+  of_file bytes Says e h = says_of (Some files) name bytes Says (ap Some e) h
 
   certificate_found : (o : Option (List ℕ)) → file_of name files ≡ o → ((r : Refusal) × RefusesCertificate (Some files) name core r) ⊎ ((x : CertAnswer) × ChecksFile (Some files) name core x)
   certificate_found None e = inl (refusal.ReadFault name, missing (ap Some e) refl)
@@ -248,6 +238,15 @@ module _ (files : Files) (name : List ℕ) (core : Core) where
   some_certified : HasAnswer (IsCertifyAnswer (Some files) name core)
   some_certified =
       some_stage (RefusesCertificate (Some files) name core) (ChecksFile (Some files) name core) _ (certificate_found (file_of name files) refl) (λ x h. (one_line (certify_json x) (checked_status x), refl))
+
+  some_upgraded_of : (o : Option (List ℕ)) → file_of name files ≡ o → HasAnswer (IsUpgradeAnswer (Some files) name core)
+  some_upgraded_of None e =
+      let r : Refusal = refusal.ReadFault name in
+      (after_text [] (refused r), ([], refused r, stops r (absent (ap Some e) refl refl) refl, refl))
+  some_upgraded_of (Some bytes) e = let x = written_on (Some files) name core bytes 0 [] (ap Some e) refl in (x.0, x.2)
+
+  some_upgraded : HasAnswer (IsUpgradeAnswer (Some files) name core)
+  some_upgraded = some_upgraded_of (file_of name files) refl
 
 -- ---- reports that are made and checked
 
@@ -291,4 +290,6 @@ some_answer files (Some (replay f v)) =
     some_core files f (IsReplayAnswer (Some files) v) (λ text p c is made. some_file files v (λ bytes. TellsGivenRun bytes c) (λ bytes. some_given text bytes p c is made))
 some_answer files (Some (certify f c)) =
     some_core files f (IsCertifyAnswer (Some files) c) (λ text p core is made. some_certified files c core)
+some_answer files (Some (upgrade f c)) =
+    some_core files f (IsUpgradeAnswer (Some files) c) (λ text p core is made. some_upgraded files c core)
 some_answer files (Some (demo n)) = some_of_text (rounds_text n) IsDemoAnswer (λ p c is made. some_demo (rounds_text n) p c is made)

@@ -1,5 +1,5 @@
 -- Files and a command have one answer.
-use Rattle.std.proofs.Common.{◌≡◌, ◌≢◌, ◌∙◌, ℕ, ◌<◌, ◌≤◌, inl, inr, List, [], ◌∷◌, length, Option, Some, None, sym, refl, ap, subst, arith}
+use Rattle.std.proofs.Common.{◌≡◌, ◌≢◌, ◌∙◌, ℕ, ◌<◌, ◌≤◌, inl, inr, List, [], ◌∷◌, length, map, Option, Some, None, sym, refl, ap, subst, arith}
 use Rattle.slice_num.specs.Pieces.{joined}
 use Rattle.slice_num.specs.Valuation.{Valuation}
 use Rattle.slice_io.specs.Files.{Files, file_of, told_file, IsFile}
@@ -26,9 +26,11 @@ use Rattle.slice_check.specs.declared.answer.CertAnswer.{CertAnswer}
 use Rattle.slice_check.specs.declared.answer.CertAnswer.TheVariants.{Accepted}
 use Rattle.slice_check.specs.declared.answer.CertFault.{CertFault}
 use Rattle.slice_check.proofs.OneStop.{one_fault, one_answer, answer_or_fault}
-use Rattle.slice_top.specs.Certificates.{SaysOfFile, ChecksFile, RefusesCertificate, missing, given_up, checker_refusal}
-use Rattle.slice_top.specs.Answers.{Answer, refused, Stage, stops, goes, WithFile, WithProgram, WithCore, IsPrintAnswer, IsCheckAnswer, IsPathsAnswer, IsRunAnswer, IsReplayAnswer, IsCertifyAnswer, Counters, low, high, Closes, ClosesAt, IsVerifyAnswer, after_text, TellsLeastRun, TellsGivenRun, IsOutcome, OfText, CountsReport, AfterReport, IsDemoAnswer}
-use Rattle.slice_top.specs.Commands.{check, print, paths, verify, run, replay, certify, demo}
+use Rattle.slice_check.proofs.OneUpgrade.{one_upgrade, one_upgrade_fault, upgrade_or_fault}
+use Rattle.slice_cert.specs.CertLines.{line_text}
+use Rattle.slice_top.specs.Certificates.{SaysOfFile, ChecksFile, RefusesCertificate, RefusesUpgrade, UpgradesFile, absent, gives_up, missing, given_up, checker_refusal}
+use Rattle.slice_top.specs.Answers.{Answer, refused, Stage, stops, goes, WithFile, WithProgram, WithCore, IsPrintAnswer, IsCheckAnswer, IsPathsAnswer, IsRunAnswer, IsReplayAnswer, IsCertifyAnswer, EndsUpgrade, IsUpgradeAnswer, upgrade_end, Counters, low, high, Closes, ClosesAt, IsVerifyAnswer, after_text, TellsLeastRun, TellsGivenRun, IsOutcome, OfText, CountsReport, AfterReport, IsDemoAnswer}
+use Rattle.slice_top.specs.Commands.{check, print, paths, verify, run, replay, certify, upgrade, demo}
 use Rattle.slice_top.specs.Cores.{RefusesCore, IsCoreOf, rule_refusal, limit_refusal}
 use Rattle.slice_top.specs.Demos.{AcceptsReport, RefusesReport, report_name}
 use Rattle.slice_top.specs.FilesRead.{IsFileOf, RefusesFile}
@@ -211,6 +213,35 @@ module _ (files : Files) (name : List ℕ) (core : Core) where
       stage_one (RefusesCertificate (Some files) name core) (ChecksFile (Some files) name core) _ one_certificate_refusal certificate_apart
       (λ x y h k. let b = bytes_of h in one_answer core b.0 x y (h.says b.0 b.1) (k.says b.0 b.1)) (λ x h a b e f. told_is e f)
 
+  -- ---- upgrades
+
+  one_upgrade_refusal : (xs ys : List ℕ) (r s : Refusal) → RefusesUpgrade (Some files) name core xs r → RefusesUpgrade (Some files) name core ys s → (xs ≡ ys) × (r ≡ s)
+  one_upgrade_refusal xs ys r s (absent e out h) (absent d others k) = (out ∙ sym others, h ∙ sym k)
+  one_upgrade_refusal xs ys r s (absent e out h) (gives_up g d k) = absurd (k.there e)
+  one_upgrade_refusal xs ys r s (gives_up f e h) (absent d others k) = absurd (h.there d)
+  one_upgrade_refusal xs ys r s (gives_up f e h) (gives_up g d k) =
+      let b = bytes_of h in
+      let same = one_upgrade_fault core b.0 f g xs ys (own_fault f r e) (own_fault g s d) (h.says b.0 b.1) (k.says b.0 b.1) in
+      (same.1, one_refusal (checker_refusal name) f g r s same.0 e d)
+
+  upgrade_apart : (xs ys : List ℕ) (r : Refusal) (x : CertAnswer) → RefusesUpgrade (Some files) name core xs r → UpgradesFile (Some files) name core ys x → ⊥
+  upgrade_apart xs ys r x (absent e out h) k = k.there e
+  upgrade_apart xs ys r x (gives_up f e h) k = let b = bytes_of h in own_fault f r e (upgrade_or_fault core b.0 x f ys xs (k.says b.0 b.1) (h.says b.0 b.1))
+
+  ends_upgrade_one : (xs ys : List ℕ) (a b : Answer) → EndsUpgrade (Some files) name core xs a → EndsUpgrade (Some files) name core ys b → (xs ≡ ys) × (a ≡ b)
+  ends_upgrade_one xs ys a b (stops r h e) (stops s k f) = let same = one_upgrade_refusal xs ys r s h k in (same.0, e ∙ ap refused same.1 ∙ sym f)
+  ends_upgrade_one xs ys a b (stops r h e) (goes y k f) = absurd (upgrade_apart xs ys r y h k)
+  ends_upgrade_one xs ys a b (goes x h e) (stops s k f) = absurd (upgrade_apart ys xs s x k h)
+  ends_upgrade_one xs ys a b (goes x h e) (goes y k f) =
+      let there = bytes_of h in
+      let same = one_upgrade core there.0 x y xs ys (h.says there.0 there.1) (k.says there.0 there.1) in
+      (same.1, e ∙ ap upgrade_end same.0 ∙ sym f)
+
+  upgrade_one : One (IsUpgradeAnswer (Some files) name core)
+  upgrade_one a b (ls, x, h, e) (ks, y, k, f) =
+      let same = ends_upgrade_one (joined (map line_text ls)) (joined (map line_text ks)) x y h k in
+      e ∙ (λ i. after_text (same.0 i) (same.1 i)) ∙ sym f
+
 -- ---- decisions
 
 counters_one : (core : Core) (g : Goal) (xs : List ℤ) → One (Counters core g xs)
@@ -338,4 +369,5 @@ answer_unique once files (Some (verify f)) a b h k = with_core_one once files f 
 answer_unique once files (Some (run f v)) a b h k = with_core_one once files f (IsRunAnswer (Some files) v) (λ c some. file_one files v _ (λ bytes. least_one bytes c some)) a b h k
 answer_unique once files (Some (replay f v)) a b h k = with_core_one once files f (IsReplayAnswer (Some files) v) (λ c some. file_one files v _ (λ bytes. given_one bytes c some)) a b h k
 answer_unique once files (Some (certify f c)) a b h k = with_core_one once files f (IsCertifyAnswer (Some files) c) (λ core some. certify_one files c core) a b h k
+answer_unique once files (Some (upgrade f c)) a b h k = with_core_one once files f (IsUpgradeAnswer (Some files) c) (λ core some. upgrade_one files c core) a b h k
 answer_unique once files (Some (demo n)) a b h k = made_one once (rounds_text n) a b h k

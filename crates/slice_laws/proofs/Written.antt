@@ -15,7 +15,7 @@ use Rattle.slice_cert.specs.declared.line.Line.{Line}
 use Rattle.slice_cert.specs.declared.line.Line.TheVariants.{Header, Refutation, Cover, Closing}
 use Rattle.slice_check.specs.Certificate.{Takes}
 use Rattle.slice_verify.specs.Report.{AreTaken}
-use Rattle.slice_verify.proofs.Covers.{shared_refuted}
+use Rattle.slice_check.proofs.Covers.{shared_refuted}
 use Rattle.slice_top.proofs.Taking.{Stands, all_taken, comes, leads_one, line_leads, stands_first, stands_next, took_first}
 use Rattle.slice_laws.specs.Written.{LinesRefuteGoals, LinesTakeAll, ReachedGoalsFollow, TakeUpTo}
 

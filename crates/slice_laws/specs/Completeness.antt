@@ -1,6 +1,7 @@
 -- What each command answers where its files keep their forms, no limit is passed, and numbers fit.
 use Rattle.std.specs.Prelude.{◌≡◌, ◌↔◌, ℕ, ◌<◌, ◌≤◌, ℤ, ⊤, List, [], ◌∷◌, ◌++◌, length, Some, None}
 use Rattle.std.specs.List.{Contains}
+use Rattle.slice_num.specs.Pieces.{joined}
 use Rattle.slice_num.specs.Valuation.{Valuation, IsValuationList}
 use Rattle.slice_num.specs.declared.cut_answer.CutAnswer.{CutAnswer}
 use Rattle.slice_io.specs.Files.{Files, file_of}
@@ -19,11 +20,12 @@ use Rattle.slice_run.specs.Walk.{Told, InRange, outcome, Least, Given}
 use Rattle.slice_simplex.specs.ProverAnswer.{RunFits, IsEndSolution}
 use Rattle.slice_cert.specs.CertLines.{line_text}
 use Rattle.slice_cert.specs.declared.line.Line.{Line}
-use Rattle.slice_cert.specs.declared.line.Line.TheVariants.{Refutation, Cover, Closing}
+use Rattle.slice_cert.specs.declared.line.Line.TheVariants.{Header, Refutation, Cover, Closing}
 use Rattle.slice_paths.specs.Coming.{coming_on}
 use Rattle.slice_check.specs.Certificate.{Accepts, SaysLine, file_limit}
 use Rattle.slice_check.specs.Faults.{Rejects}
 use Rattle.slice_check.specs.Verdicts.{SumFits}
+use Rattle.slice_check.specs.Upgrades.{RejectsFirst, texts_of}
 use Rattle.slice_check.specs.declared.answer.CertAnswer.TheVariants.{Accepted, Rejected}
 use Rattle.slice_check.specs.declared.answer.Rejection.{Rejection}
 use Rattle.slice_counter.specs.Counter.{IsLow}
@@ -35,8 +37,8 @@ use Rattle.slice_report.specs.CoreReport.{core_json}
 use Rattle.slice_report.specs.DemoReport.{demo_json}
 use Rattle.slice_report.specs.GoalReport.{count_json, goal_json}
 use Rattle.slice_report.specs.RunReport.{told_json}
-use Rattle.slice_top.specs.Answers.{Answer, IsAnswer, IsVerifyAnswer, answer_of, one_line}
-use Rattle.slice_top.specs.Commands.{check, print, paths, verify, run, replay, certify, demo}
+use Rattle.slice_top.specs.Answers.{Answer, IsAnswer, IsVerifyAnswer, after_text, answer_of, one_line}
+use Rattle.slice_top.specs.Commands.{check, print, paths, verify, run, replay, certify, upgrade, demo}
 use Rattle.slice_top.specs.Cores.{IsCoreOf}
 use Rattle.slice_top.specs.FilesRead.{IsFileOf}
 use Rattle.slice_top.specs.Found.{EndsAsTold}
@@ -124,6 +126,40 @@ abbrev pub CertifyJudges : Type 0
 CertifyJudges =
     (files : Files) (f c bytes : List ℕ) (p : PlainProgram) (core : Core) (a : Answer) → HoldsProtocol files f p core → CanBeMade core → file_of c files ≡ Some bytes → length bytes ≤ file_limit → SumsFit core bytes
     → IsAnswer (Some files) (Some (certify f c)) a → Judges core bytes a
+
+-- ---- `upgrade F C`
+
+-- the file is a certificate of version 1
+pub record IsFirstCertificate (core : Core) (file : List ℕ) : Type 0 where
+  pub accepts : Accepts core file
+  pub header : SaysLine file 0 (Header 1 core.name core.agents)
+
+-- the text is a certificate, and written in version 2: its header, lines that take goals, and the closing line
+pub record IsUpgradedText (core : Core) (text : List ℕ) : Type 0 where
+  pub accepts : Accepts core text
+  pub lines : List Line
+  pub total : ℕ
+  pub written : text ≡ joined (texts_of core lines ++ line_text (Closing total) ∷ [])
+
+-- where the file is a certificate of version 1, one of version 2 is written, and nothing else; else lines, and then the first
+-- thing that is wrong with it
+pub data JudgesUpgrade (core : Core) (file : List ℕ) (a : Answer) : Type 0 where
+  upgraded : IsFirstCertificate core file → IsUpgradedText core a.text → a.status ≡ status.Good → JudgesUpgrade core file a
+  turned_down :
+      (IsFirstCertificate core file → ⊥) → (r : Rejection) → RejectsFirst core file r → (out : List ℕ) → a ≡ after_text out (one_line (certify_json (Rejected r)) status.Negative) → JudgesUpgrade core file a
+
+-- where moreover C is within a certificate's limit, and the sums of its multipliers fit
+abbrev pub UpgradeJudges : Type 0
+UpgradeJudges =
+    (files : Files) (f c bytes : List ℕ) (p : PlainProgram) (core : Core) (a : Answer) → HoldsProtocol files f p core → CanBeMade core → file_of c files ≡ Some bytes → length bytes ≤ file_limit → SumsFit core bytes
+    → IsAnswer (Some files) (Some (upgrade f c)) a → JudgesUpgrade core bytes a
+
+-- where `upgrade` ends well, whatever C holds and whatever fits, C is a certificate of version 1 of the program in F, and what was
+-- written is one of version 2
+abbrev pub UpgradedFilesAreCertificates : Type 0
+UpgradedFilesAreCertificates =
+    (files : Files) (f c : List ℕ) (a : Answer) → IsAnswer (Some files) (Some (upgrade f c)) a → a.status ≡ status.Good
+    → (p : PlainProgram) × (core : Core) × (bytes : List ℕ) × HoldsProtocol files f p core × (file_of c files ≡ Some bytes) × IsFirstCertificate core bytes × IsUpgradedText core a.text
 
 -- ---- `verify F`
 

@@ -1,7 +1,7 @@
 //! When each command comes to an end of its work, whatever else the files hold: laws of the definitions that
 //! `top`'s contract rests on, faults of devices and want of memory aside: its clause `answered` says that what it
 //! writes is an answer, and these laws say which. No function does anything: its clauses are the laws.
-ghost use Rattle.slice_laws.specs.Completeness.{CertifyJudges, CheckGivesTheCounts, DemoDecides, PathsGivesTheGoals, PrintGivesTheText, ReplayTellsARunInRange, RunTellsARunInRange, VerifyDecides, VerifyIsExact};
+ghost use Rattle.slice_laws.specs.Completeness.{CertifyJudges, CheckGivesTheCounts, DemoDecides, PathsGivesTheGoals, PrintGivesTheText, ReplayTellsARunInRange, RunTellsARunInRange, UpgradeJudges, UpgradedFilesAreCertificates, VerifyDecides, VerifyIsExact};
 
 use slice_parse::parsings_are_unique;
 
@@ -47,6 +47,20 @@ pub fn certify_judges()
 {
     parsings_are_unique();
 }
+
+/// `upgrade F C` writes a certificate of version 2 and ends well exactly where C is one of version 1; else it ends with the first
+/// thing that is wrong with C, a header of version 2 counted as such, under the premises of `certify_judges`.
+pub fn upgrade_judges()
+    ensures { UpgradeJudges }
+{
+    parsings_are_unique();
+}
+
+/// Where `upgrade F C` ends well, C is a certificate of version 1 of the program in F, and what was written is one of version 2:
+/// whatever C holds, and with no premise on what fits.
+pub fn upgraded_files_are_certificates()
+    ensures { UpgradedFilesAreCertificates }
+{}
 
 /// `verify F` ends with envy-free or with a counterexample, where all goals of the core can be made, the pivot run of each that
 /// no line takes beside its own goal ends within 100,000 pivots and fits, and no height of these is above 10^18.

@@ -17,7 +17,8 @@ CoversAreFronts =
     → (front : List Choice) × (rest : List Choice) × (front_of passed core.tree trace ≡ Some front) × (front ++ rest ≡ trace) × (rows ≡ rows_after core front)
     × All (λ (r : LinearRow). length r.coefs ≡ width rows) rows
 
--- a goal has such rows exactly for the passed choices that it has: one more than the agents, and one for each of them
+-- a goal has such rows exactly for as many passed choices as it has: there is one row for the whole, one for each agent and
+-- one for each of these choices
 abbrev pub GoalsHaveCovers : Type 0
 GoalsHaveCovers =
     (core : Core) (g : Goal) (passed : ℕ) → Contains (goals core) g

@@ -56,7 +56,7 @@ front_of (suc more) (Test left right strict at_yes at_no) cs = front_at_test (fr
 front_of (suc more) (Give p a next) cs = front_of (suc more) next cs
 front_of (suc more) End cs = None
 
--- the goal has the same first so many passed choices as the trace
+-- the goal has the same first so many passed choices as the trace (said of traces that have so many)
 abbrev pub Shares : Core → ℕ → List Choice → Goal → Type 0
 Shares core passed trace g = front_of passed core.tree g.trace ≡ front_of passed core.tree trace
 

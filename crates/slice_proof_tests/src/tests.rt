@@ -1,7 +1,8 @@
-// What `certify`, `verify` and `demo` say.
+// What `certify`, `upgrade`, `verify` and `demo` say.
 mod certified;
 mod covered;
 mod demos;
 mod hostile;
 mod neighbours;
+mod upgraded;
 mod verified;

@@ -15,6 +15,6 @@ reports_tell_answers told c before after s h read write memory = by h.is
   where
     by : Report told c h.bytes s → (a : Answer) × (IsAnswer told c a × ((after ≡ appended before a.text) × (s ≡ a.status)))
     by (whole (answered a is e t)) = (a, (is, (h.out ∙ ap (appended before) t, e)))
-    by (whole (unread file turn e t)) = absurd (read e)
+    by (whole (unread file out turn e t)) = absurd (read e)
     by (whole (starved out is e t)) = absurd (memory e)
     by (cut all other w count t e) = absurd (write e)

@@ -18,12 +18,12 @@ use Rattle.slice_cert.specs.CertLines.{line_text, line_json}
 use Rattle.slice_cert.specs.ShortForms.{short_line}
 use Rattle.slice_counter.specs.CounterLine.{counter_json, counter_text}
 use Rattle.slice_counter.specs.declared.counter.Counterexample.{Counterexample}
+use Rattle.slice_check.proofs.LinesOut.{map-append}
 use Rattle.slice_verify.specs.Report.{IsTaken, LeadsTo, TakeFirst, IsReached, PassesLimit, IsDecision, IsStop, IsCounterOf, texts_after, closing_text, DecisionIs, Begins, none, begun, covered, AreRight, part, whole, FaultIs, pivot_limit}
 use Rattle.slice_verify.specs.declared.verifier.Decision.{Decision}
 use Rattle.slice_verify.specs.declared.verifier.Decision.TheVariants.{EnvyFree, Found}
 use Rattle.slice_verify.specs.declared.verifier.VerifyFault.{VerifyFault}
 use Rattle.slice_verify.specs.declared.verifier.VerifyFault.TheVariants as fault
-use Rattle.slice_verify.proofs.LinesOut.{map-append}
 use Rattle.slice_report.specs.Refusals.{refused_json}
 use Rattle.slice_report.specs.declared.refusal.Refusal.{Refusal}
 use Rattle.slice_report.specs.declared.refusal.Refusal.TheVariants.{GoalLimit, FormOverflow, ProverOverflow, PivotLimit, HeightLimit}
@@ -50,7 +50,7 @@ pub lines_before : (line rest : List ℕ) → AreLines line → AreLines rest �
 lines_before line rest h (report.none e) = subst AreLines (sym (append-nil line) ∙ ap (λ xs. line ++ xs) (sym e)) h
 lines_before line rest h (report.ended before e) = report.ended (line ++ before) (ap (λ xs. line ++ xs) e ∙ sym (append_assoc line before (10 ∷ [])))
 
-joined_lines : (ls : List Line) → AreLines (joined (map line_text ls))
+pub joined_lines : (ls : List Line) → AreLines (joined (map line_text ls))
 joined_lines [] = report.none refl
 joined_lines (l ∷ ls) = lines_before (line_text l) (joined (map line_text ls)) (line_behind [] (line_json l)) (joined_lines ls)
 

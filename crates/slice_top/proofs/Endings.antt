@@ -9,10 +9,10 @@ use Rattle.slice_json.specs.Texts.{line_of}
 use Rattle.slice_report.specs.Refusals.{HasTexts, refused_json}
 use Rattle.slice_report.specs.declared.refusal.Refusal.{Refusal}
 use Rattle.slice_report.specs.declared.refusal.Refusal.TheVariants.{Usage, ReadFault, TooLong, Unbound, Rebound, UsedTwice}
-use Rattle.slice_top.specs.Commands.{Command}
+use Rattle.slice_top.specs.Commands.{Command, check, print, paths, verify, run, replay, certify, upgrade, demo}
 use Rattle.slice_top.specs.Turns.{ReadsFor}
 use Rattle.slice_top.specs.Answers.{Answer, IsAnswer, refused, answer_of}
-use Rattle.slice_top.specs.Reports.{AreLines, none, IsOut, nothing, first_lines, Whole, answered, unread, starved, whole, cut, memory_line, Reports}
+use Rattle.slice_top.specs.Reports.{AreLines, none, IsOut, nothing, first_lines, Whole, answered, unread, starved, whole, cut, memory_line, IsOutAt, ReadsAfter, Reports}
 use Rattle.slice_top.specs.Settled.{Wrote, WroteFront, Ends, StopsIn, LinesStop, IsOwn, IsLast, IsRefused, Settled}
 use Rattle.slice_top.specs.Statuses.{IsWorked, IsWritten, is_limit, refused_status}
 use Rattle.slice_top.specs.Stops.{IsOfWork, StopsBy}
@@ -37,28 +37,65 @@ wrote_nothing before after Kind e h = record { out = []; told = e ∙ appended_n
 pub ends_at_once : (Kind : Answer → Type 0) (out : Option (List ℕ)) (bytes : List ℕ) (s : Status) → Kind (answer_of bytes s) → Ends Kind out out bytes s
 ends_at_once Kind out bytes s h = wrote_nothing out out (λ xs. AreLines xs × Kind (answer_of (xs ++ bytes) s)) refl (none refl, h)
 
+-- nothing may be out where a file can't be read
+none_out : (told : Option Files) (k : Option Command) (file : List ℕ) → IsOutAt told k file []
+none_out told None file = refl
+none_out told (Some (check f)) file = refl
+none_out told (Some (print f)) file = refl
+none_out told (Some (paths f)) file = refl
+none_out told (Some (verify f)) file = refl
+none_out told (Some (run f v)) file = refl
+none_out told (Some (replay f v)) file = refl
+none_out told (Some (certify f c)) file = refl
+none_out told (Some (upgrade f c)) file = inl refl
+none_out told (Some (demo n)) file = refl
+
+-- and what may be out is part of an answer
+out_at : (told : Option Files) (k : Command) (file bytes : List ℕ) → IsOutAt told (Some k) file bytes → IsOut (IsAnswer told (Some k)) bytes
+out_at told (check f) file bytes e = nothing e
+out_at told (print f) file bytes e = nothing e
+out_at told (paths f) file bytes e = nothing e
+out_at told (verify f) file bytes e = nothing e
+out_at told (run f v) file bytes e = nothing e
+out_at told (replay f v) file bytes e = nothing e
+out_at told (certify f c) file bytes e = nothing e
+out_at told (upgrade f c) file bytes (inl e) = nothing e
+out_at told (upgrade f c) file bytes (inr h) = h.1
+out_at told (demo n) file bytes e = nothing e
+
 -- work that writes nothing stops
-pub stops_at_once : (Kind : Answer → Type 0) (Turn : List ℕ → Type 0) (shelf sink : Type 0) (out : Option (List ℕ)) (s : Stop) → StopsBy (λ r. Kind (refused r)) Turn shelf s → StopsIn Kind Turn shelf sink out out s
-stops_at_once Kind Turn shelf sink out (stop.Refused r) h = (ends_at_once Kind out (line_of (refused_json r)) (refused_status r) h.0, h.1)
-stops_at_once Kind Turn shelf sink out (stop.Unread file) h = (refl, h)
-stops_at_once Kind Turn shelf sink out stop.Memory h = wrote_nothing out out (IsOut Kind) refl (nothing refl)
-stops_at_once Kind Turn shelf sink out stop.Unwritten h = absurd h
+pub stops_at_once : (told : Option Files) (k : Option Command) (shelf sink : Type 0) (out : Option (List ℕ)) (s : Stop) → StopsBy (λ r. IsAnswer told k (refused r)) (ReadsFor told k) shelf s
+    → StopsIn (IsAnswer told k) (ReadsAfter told k) shelf sink out out s
+stops_at_once told k shelf sink out (stop.Refused r) h = (ends_at_once (IsAnswer told k) out (line_of (refused_json r)) (refused_status r) h.0, h.1)
+stops_at_once told k shelf sink out (stop.Unread file) h = (wrote_nothing out out (ReadsAfter told k file) refl (h.0, none_out told k file), h.1)
+stops_at_once told k shelf sink out stop.Memory h = wrote_nothing out out (IsOut (IsAnswer told k)) refl (nothing refl)
+stops_at_once told k shelf sink out stop.Unwritten h = absurd h
 
 -- one kind of answer for another
 pub ends_so : (Kind Other : Answer → Type 0) (before after : Option (List ℕ)) (bytes : List ℕ) (s : Status) → ((a : Answer) → Kind a → Other a) → Ends Kind before after bytes s → Ends Other before after bytes s
 ends_so Kind Other before after bytes s f h = record { out = h.out; told = h.told; is = (h.is.0, f (answer_of (h.out ++ bytes) s) h.is.1) }
 
-out_so : (Kind Other : Answer → Type 0) (bytes : List ℕ) → ((a : Answer) → Kind a → Other a) → IsOut Kind bytes → IsOut Other bytes
+pub out_so : (Kind Other : Answer → Type 0) (bytes : List ℕ) → ((a : Answer) → Kind a → Other a) → IsOut Kind bytes → IsOut Other bytes
 out_so Kind Other bytes f (nothing e) = nothing e
 out_so Kind Other bytes f (first_lines a h l rest e) = first_lines a (f a h) l rest e
 
 -- and work that reads no file in work that does
-pub lines_stop_in : (Kind Other : Answer → Type 0) (Turn : List ℕ → Type 0) (shelf sink : Type 0) (before after : Option (List ℕ)) (s : Stop)
+pub lines_stop_in : (Kind Other : Answer → Type 0) (Turn : List ℕ → List ℕ → Type 0) (shelf sink : Type 0) (before after : Option (List ℕ)) (s : Stop)
     → ((a : Answer) → Kind a → Other a) → LinesStop Kind sink before after s → StopsIn Other Turn shelf sink before after s
 lines_stop_in Kind Other Turn shelf sink before after (stop.Refused r) f h = (ends_so Kind Other before after (line_of (refused_json r)) (refused_status r) f h.0, h.1)
 lines_stop_in Kind Other Turn shelf sink before after (stop.Unread file) f h = absurd h.1.0
 lines_stop_in Kind Other Turn shelf sink before after stop.Memory f h = record { out = h.out; told = h.told; is = out_so Kind Other h.out f h.is }
 lines_stop_in Kind Other Turn shelf sink before after stop.Unwritten f h = (record { answer = h.0.answer; is = f h.0.answer h.0.is; front = h.0.front }, h.1)
+
+-- work in other work: one kind of answer, one turn and one count for others
+pub stops_in_so : (Kind Other : Answer → Type 0) (Turn Later : List ℕ → List ℕ → Type 0) (shelf shelves sink sinks : Type 0) (before after : Option (List ℕ)) (s : Stop) → ((a : Answer) → Kind a → Other a)
+    → ((file out : List ℕ) → Turn file out → Later file out) → (shelf → shelves) → (sink → sinks) → StopsIn Kind Turn shelf sink before after s → StopsIn Other Later shelves sinks before after s
+stops_in_so Kind Other Turn Later shelf shelves sink sinks before after (stop.Refused r) f t up on h =
+    (ends_so Kind Other before after (line_of (refused_json r)) (refused_status r) f h.0, h.1)
+stops_in_so Kind Other Turn Later shelf shelves sink sinks before after (stop.Unread file) f t up on h =
+    (record { out = h.0.out; told = h.0.told; is = t file h.0.out h.0.is }, (up h.1.0, h.1.1))
+stops_in_so Kind Other Turn Later shelf shelves sink sinks before after stop.Memory f t up on h = record { out = h.out; told = h.told; is = out_so Kind Other h.out f h.is }
+stops_in_so Kind Other Turn Later shelf shelves sink sinks before after stop.Unwritten f t up on h = (record { answer = h.0.answer; is = f h.0.answer h.0.is; front = h.0.front }, on h.1)
 
 -- ---- what is settled
 
@@ -116,15 +153,15 @@ module _ (told : Option Files) (k : Command) (shelf : Type 0) (before after : Op
       record { out = h.out; told = h.told; is = first_lines (answer_of (h.out ++ line_of (refused_json r)) (refused_status r)) h.is.1 h.is.0 (line_of (refused_json r)) refl }
   refused_settled sink r w h ending.Unwritten line = absurd line
 
-  pub unread_settled : (sink : Type 0) (file : List ℕ) → after ≡ before → ReadsFor told (Some k) file → shelf → (e : Ending) → IsRefused (ReadFault file) e → Settled told (Some k) shelf sink before after e
-  unread_settled sink file same h rose (ending.Last l) line = record {
+  pub unread_settled : (sink : Type 0) (file : List ℕ) → Wrote before after (ReadsAfter told (Some k) file) → shelf → (e : Ending) → IsRefused (ReadFault file) e → Settled told (Some k) shelf sink before after e
+  unread_settled sink file w rose (ending.Last l) line = record {
     written = rw line.1 tt;
     usage = (λ e. let bad : status.ReadFault ≡ status.Usage = sym line.1 ∙ e in absurd cc, λ e. absurd (some_none k e));
     read = λ e. rose;
-    whole = wrote_nothing before after (λ out. Whole told (Some k) (out ++ l.bytes.items) l.status) same (unread file h line.1 line.0);
+    whole = record { out = w.out; told = w.told; is = unread file w.out w.is line.1 (ap (λ xs. w.out ++ xs) line.0) };
   }
-  unread_settled sink file same h rose ending.Starved line = wrote_nothing before after (IsOut (IsAnswer told (Some k))) same (nothing refl)
-  unread_settled sink file same h rose ending.Unwritten line = absurd line
+  unread_settled sink file w rose ending.Starved line = record { out = w.out; told = w.told; is = out_at told k file w.out w.is.1 }
+  unread_settled sink file w rose ending.Unwritten line = absurd line
 
 pub usage_settled : (told : Option Files) (shelf sink : Type 0) (out : Option (List ℕ)) (e : Ending) → IsRefused Usage e → Settled told None shelf sink out out e
 usage_settled told shelf sink out (ending.Last l) line = record {

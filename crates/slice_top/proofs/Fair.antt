@@ -14,7 +14,7 @@ use Rattle.slice_core.specs.Tree.{Core}
 use Rattle.slice_core.specs.WellFormed.{IsWellFormed}
 use Rattle.slice_core.proofs.Kept.{runs_divide}
 use Rattle.slice_core.proofs.MeasureLaws.{share_values_are_measures}
-use Rattle.slice_paths.specs.Goals.{Goal, goals}
+use Rattle.slice_paths.specs.Goals.{goals}
 use Rattle.slice_paths.specs.RunLaws.{IsRefuted}
 use Rattle.slice_paths.proofs.OnTheWay.{refuted_on_the_way}
 use Rattle.slice_expand.specs.Expansion.{core_of}

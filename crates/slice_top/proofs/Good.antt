@@ -1,15 +1,17 @@
--- Where `verify`, `certify` or `demo` ends well, every run of its protocol is fair.
-use Rattle.std.proofs.Common.{◌≡◌, ◌∙◌, ap, sym, subst, ℕ, List, Option, Some, None, refl}
+-- Where `verify`, `certify`, `upgrade` or `demo` ends well, every run of its protocol is fair.
+use Rattle.std.proofs.Common.{◌≡◌, ◌∙◌, ap, sym, subst, ℕ, List, map, Option, Some, None, refl}
 use Rattle.std.specs.Prelude.{ℤ, IfSome, Bool, true, false, if◌then◌else◌}
 use Rattle.std.specs.List.{All}
 use Rattle.slice_io.specs.Files.{Files, file_of, IsFile}
 use Rattle.slice_ast.specs.Code.{PlainProgram}
 use Rattle.slice_parse.specs.Laws.{IsProgramOf}
+use Rattle.slice_num.specs.Pieces.{joined}
 use Rattle.slice_core.specs.Tree.{Core}
 use Rattle.slice_paths.specs.Events.{Event, NextGoal, Gives, NoMore, Overflows, OverLimit, next_goal}
 use Rattle.slice_paths.specs.Goals.{Goal, goals}
 use Rattle.slice_paths.specs.RunLaws.{IsRefuted}
 use Rattle.slice_simplex.specs.ProverAnswer.{ProverAnswer, RefutedBy, SolvedBy, AtLimit, Unfit}
+use Rattle.slice_cert.specs.CertLines.{line_text}
 use Rattle.slice_check.specs.declared.answer.CertAnswer.{CertAnswer}
 use Rattle.slice_check.specs.declared.answer.CertAnswer.TheVariants.{Accepted, Rejected}
 use Rattle.slice_check.proofs.Refuted.{certified_goals_are_refuted, lines_refuted}
@@ -17,11 +19,11 @@ use Rattle.slice_gen.specs.Rounds.{rounds_text}
 use Rattle.slice_report.specs.declared.refusal.Refusal.{Refusal}
 use Rattle.slice_report.specs.declared.refusal.Refusal.TheVariants.{Usage, ReadFault}
 use Rattle.slice_report.specs.declared.refusal.Refusal.TheVariants as refusal
-use Rattle.slice_top.specs.Answers.{Answer, Stage, stops, goes, refused, OfText, WithCore, IsAnswer, Counters, low, high, Closes, ClosesAt, IsVerifyAnswer, IsCertifyAnswer, AfterReport, IsDemoAnswer}
-use Rattle.slice_top.specs.Certificates.{ChecksFile, checked_status}
-use Rattle.slice_top.specs.Commands.{Command, check, print, paths, verify, run, replay, certify, demo}
+use Rattle.slice_top.specs.Answers.{Answer, Stage, stops, goes, refused, OfText, WithCore, IsAnswer, Counters, low, high, Closes, ClosesAt, IsVerifyAnswer, IsCertifyAnswer, EndsUpgrade, IsUpgradeAnswer, upgrade_end, AfterReport, IsDemoAnswer}
+use Rattle.slice_top.specs.Certificates.{ChecksFile, UpgradesFile, checked_status}
+use Rattle.slice_top.specs.Commands.{Command, check, print, paths, verify, run, replay, certify, upgrade, demo}
 use Rattle.slice_top.specs.Cores.{IsCoreOf, RefusesCore}
-use Rattle.slice_top.specs.Headline.{EveryRunIsFair, HoldsFairProgram, IsFairText, made_rounds, shown_file}
+use Rattle.slice_top.specs.Headline.{HoldsFairProgram, IsFairText, made_rounds, shown_file}
 use Rattle.slice_top.specs.Reports.{Whole, answered, unread, starved, Report, whole, cut, Reports}
 use Rattle.slice_top.specs.Statuses.{is_limit, refused_status}
 use Rattle.slice_top.specs.declared.status.Status.{Status}
@@ -65,6 +67,22 @@ accepted files c core (Rejected r) (Some bytes) e h good = absurd cc
 certified : (files : Files) (c : List ℕ) (core : Core) (a : Answer) → IsCertifyAnswer (Some files) c core a → a.status ≡ status.Good → AreRefuted core
 certified files c core a (stops r h e) good = absurd (refused_not_good r a e good)
 certified files c core a (goes x h e) good = accepted files c core x (file_of c files) refl h (sym (ap (λ (b : Answer). b.status) e) ∙ good)
+
+-- ---- upgrades
+
+-- of a certificate that is accepted
+accepted_end : (files : Files) (c : List ℕ) (core : Core) (out : List ℕ) (x : CertAnswer) (o : Option (List ℕ)) → file_of c files ≡ o → UpgradesFile (Some files) c core out x → (upgrade_end x).status ≡ status.Good → AreRefuted core
+accepted_end files c core out x None e h good = absurd (h.there (ap Some e))
+accepted_end files c core out (Accepted n) (Some bytes) e h good =
+    certified_goals_are_refuted core bytes (h.says bytes (ap Some e)).1.0
+accepted_end files c core out (Rejected r) (Some bytes) e h good = absurd cc
+
+ended_well : (files : Files) (c : List ℕ) (core : Core) (out : List ℕ) (b : Answer) → EndsUpgrade (Some files) c core out b → b.status ≡ status.Good → AreRefuted core
+ended_well files c core out b (stops r h e) good = absurd (refused_not_good r b e good)
+ended_well files c core out b (goes x h e) good = accepted_end files c core out x (file_of c files) refl h (sym (ap (λ (a : Answer). a.status) e) ∙ good)
+
+upgraded : (files : Files) (c : List ℕ) (core : Core) (a : Answer) → IsUpgradeAnswer (Some files) c core a → a.status ≡ status.Good → AreRefuted core
+upgraded files c core a (ls, b, ends, e) good = ended_well files c core (joined (map line_text ls)) b ends (sym (ap (λ (x : Answer). x.status) e) ∙ good)
 
 -- ---- decisions
 
@@ -117,7 +135,7 @@ module _ (Next : Core → Answer → Type 0) (shows : (core : Core) (a : Answer)
 module _ (told : Option Files) (Shown : Option Command → Type 0) (shown : (k : Option Command) (a : Answer) → IsAnswer told k a → a.status ≡ status.Good → Shown k) where
   good_whole : (k : Option Command) (bytes : List ℕ) (s : Status) → Whole told k bytes s → s ≡ status.Good → Shown k
   good_whole k bytes s (answered a is e t) good = shown k a is (sym e ∙ good)
-  good_whole k bytes s (unread file turn e t) good = let bad : status.ReadFault ≡ status.Good = sym e ∙ good in absurd cc
+  good_whole k bytes s (unread file out turn e t) good = let bad : status.ReadFault ≡ status.Good = sym e ∙ good in absurd cc
   good_whole k bytes s (starved out is e t) good = let bad : status.Memory ≡ status.Good = sym e ∙ good in absurd cc
 
   good_report : (k : Option Command) (bytes : List ℕ) (s : Status) → Report told k bytes s → s ≡ status.Good → Shown k
@@ -135,6 +153,7 @@ good_file files (Some (verify f)) a h good = of_file IsVerifyAnswer verified fil
 good_file files (Some (run f v)) a h good = tt
 good_file files (Some (replay f v)) a h good = tt
 good_file files (Some (certify f c)) a h good = of_file (IsCertifyAnswer (Some files) c) (certified files c) files f a h good
+good_file files (Some (upgrade f c)) a h good = of_file (IsUpgradeAnswer (Some files) c) (upgraded files c) files f a h good
 good_file files (Some (demo n)) a h good = tt
 
 good_rounds : (told : Option Files) (k : Option Command) (a : Answer) → IsAnswer told k a → a.status ≡ status.Good → IfSome (made_rounds k) (λ n. IsFairText (rounds_text n))
@@ -146,6 +165,7 @@ good_rounds told (Some (verify f)) a h good = tt
 good_rounds told (Some (run f v)) a h good = tt
 good_rounds told (Some (replay f v)) a h good = tt
 good_rounds told (Some (certify f c)) a h good = tt
+good_rounds told (Some (upgrade f c)) a h good = tt
 good_rounds told (Some (demo n)) a h good = of_text IsDemoAnswer checked (rounds_text n) a h good
 
 -- its report

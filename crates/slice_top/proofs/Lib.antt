@@ -15,3 +15,4 @@ pub mod Outcomes
 pub mod SomeDecisions
 pub mod Stages
 pub mod Taking
+pub mod Upgraded

@@ -1,5 +1,5 @@
 -- Where `verify` or `demo` ends with a counterexample, the run that it tells ends so.
-use Rattle.std.proofs.Common.{◌≡◌, ◌∙◌, ap, sym, subst, ℕ, ◌+◌, ◌<◌, List, [], ◌∷◌, ◌++◌, length, map, append_assoc, Option, Some, None, refl, arith}
+use Rattle.std.proofs.Common.{◌≡◌, ◌∙◌, ap, sym, subst, ℕ, ◌<◌, List, [], ◌∷◌, ◌++◌, length, map, append_assoc, Option, Some, None, refl, arith}
 use Rattle.std.specs.Prelude.{ℤ, IfSome, Bool, true, false, if◌then◌else◌}
 use Rattle.std.specs.List.{All, Contains}
 use Rattle.slice_num.specs.Pieces.{joined}
@@ -46,7 +46,7 @@ use Rattle.slice_report.specs.declared.refusal.Refusal.{Refusal}
 use Rattle.slice_report.specs.declared.refusal.Refusal.TheVariants.{Usage, ReadFault}
 use Rattle.slice_report.specs.declared.refusal.Refusal.TheVariants as refusal
 use Rattle.slice_top.specs.Answers.{Answer, Stage, stops, goes, refused, after_text, OfText, WithCore, IsAnswer, low, high, Closes, ClosesAt, IsVerifyAnswer, counterexample_json, AfterReport, IsDemoAnswer}
-use Rattle.slice_top.specs.Commands.{Command, check, print, paths, verify, run, replay, certify, demo}
+use Rattle.slice_top.specs.Commands.{Command, check, print, paths, verify, run, replay, certify, upgrade, demo}
 use Rattle.slice_top.specs.Cores.{IsCoreOf, RefusesCore}
 use Rattle.slice_top.specs.Demos.{last_line}
 use Rattle.slice_top.specs.Found.{EndsAsTold, HoldsUnfairProgram, IsUnfairText, met_file}
@@ -263,7 +263,7 @@ module _ (before after : Option (List ℕ)) where
   met_report : (told : Option Files) (Shown : Option Command → Type 0) → ((k : Option Command) (a : Answer) → after ≡ appended before a.text → IsAnswer told k a → a.status ≡ status.Negative → Shown k)
       → (k : Option Command) (bytes : List ℕ) (s : Status) → after ≡ appended before bytes → Report told k bytes s → s ≡ status.Negative → Shown k
   met_report told Shown shown k bytes s out (whole (answered a is e t)) negative = shown k a (out ∙ ap (appended before) t) is (sym e ∙ negative)
-  met_report told Shown shown k bytes s out (whole (unread file turn e t)) negative = let bad : status.ReadFault ≡ status.Negative = sym e ∙ negative in absurd cc
+  met_report told Shown shown k bytes s out (whole (unread file lines turn e t)) negative = let bad : status.ReadFault ≡ status.Negative = sym e ∙ negative in absurd cc
   met_report told Shown shown k bytes s out (whole (starved lines is e t)) negative = let bad : status.Memory ≡ status.Negative = sym e ∙ negative in absurd cc
   met_report told Shown shown k bytes s out (cut all other w count t e) negative = let bad : status.WriteFault ≡ status.Negative = sym e ∙ negative in absurd cc
 
@@ -278,6 +278,7 @@ module _ (before after : Option (List ℕ)) where
   met_in_file files (Some (run f v)) a told h negative = tt
   met_in_file files (Some (replay f v)) a told h negative = tt
   met_in_file files (Some (certify f c)) a told h negative = tt
+  met_in_file files (Some (upgrade f c)) a told h negative = tt
   met_in_file files (Some (demo n)) a told h negative = tt
 
   met_in_rounds : (files : Option Files) (k : Option Command) (a : Answer) → after ≡ appended before a.text → IsAnswer files k a → a.status ≡ status.Negative → IfSome (made_rounds k) (λ n. IsUnfairText before after (rounds_text n))
@@ -289,6 +290,7 @@ module _ (before after : Option (List ℕ)) where
   met_in_rounds files (Some (run f v)) a told h negative = tt
   met_in_rounds files (Some (replay f v)) a told h negative = tt
   met_in_rounds files (Some (certify f c)) a told h negative = tt
+  met_in_rounds files (Some (upgrade f c)) a told h negative = tt
   met_in_rounds files (Some (demo n)) a told h negative = of_text IsDemoAnswer met_last (rounds_text n) a told h negative
 
 -- its report

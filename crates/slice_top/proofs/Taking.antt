@@ -19,8 +19,8 @@ use Rattle.slice_cert.specs.ShortForms.{needed, short_line, used}
 use Rattle.slice_cert.proofs.Used.{short_is}
 use Rattle.slice_check.specs.Certificate.{CoversFirst, RefutesFirst, TakeInOrder, Takes}
 use Rattle.slice_check.proofs.Ahead.{IsGiven, given, none_left, plain_tells, share_count, skipped}
+use Rattle.slice_check.proofs.Covers.{cover_refuted, has_cover}
 use Rattle.slice_verify.specs.Report.{AreTaken, IsTaken, LeadsTo, TakeFirst}
-use Rattle.slice_verify.proofs.Covers.{cover_refuted, has_cover}
 
 -- ---- what is ahead
 

@@ -1,6 +1,6 @@
 -- What is answered to a command over files, faults of devices and want of memory aside: by stages, in the order of refusals.
--- Of a shelf that tells no files it is said for some bytes of each file, and of a certificate nothing but the form of its line.
-use Rattle.std.specs.Prelude.{◌≡◌, ℕ, ◌+◌, ◌<◌, nat_lt, if◌then◌else◌, ℤ, List, [], ◌∷◌, ◌++◌, length, Option, Some, None}
+-- Of a shelf that tells no files it is said for some bytes of each file, and of a certificate nothing but the form of the lines.
+use Rattle.std.specs.Prelude.{◌≡◌, ℕ, ◌+◌, ◌<◌, nat_lt, if◌then◌else◌, ℤ, List, [], ◌∷◌, ◌++◌, length, map, Option, Some, None}
 use Rattle.serde_json.specs.Data.{Data}
 use Rattle.slice_json.specs.Texts.{line_of}
 use Rattle.slice_num.specs.Pieces.{joined}
@@ -29,6 +29,7 @@ use Rattle.slice_counter.specs.Heights.{IsFirstHigh}
 use Rattle.slice_verify.specs.Report.{LeadsTo, TakeFirst, pivot_limit, texts_after}
 use Rattle.slice_gen.specs.Rounds.{rounds_text}
 use Rattle.slice_check.specs.declared.answer.CertAnswer.{CertAnswer}
+use Rattle.slice_check.specs.declared.answer.CertAnswer.TheVariants.{Accepted, Rejected}
 use Rattle.slice_report.specs.CertifyReport.{certify_json}
 use Rattle.slice_report.specs.GoalReport.{count_json, goal_json}
 use Rattle.slice_report.specs.Refusals.{refused_json}
@@ -37,8 +38,8 @@ use Rattle.slice_report.specs.CoreReport.{core_json}
 use Rattle.slice_report.specs.DemoReport.{demo_json}
 use Rattle.slice_report.specs.declared.refusal.Refusal.{Refusal}
 use Rattle.slice_report.specs.declared.refusal.Refusal.TheVariants.{Usage, GoalLimit, FormOverflow, ProverOverflow, PivotLimit, HeightLimit}
-use Rattle.slice_top.specs.Certificates.{ChecksFile, RefusesCertificate, checked_status}
-use Rattle.slice_top.specs.Commands.{Command, check, print, paths, verify, run, replay, certify, demo}
+use Rattle.slice_top.specs.Certificates.{ChecksFile, RefusesCertificate, RefusesUpgrade, UpgradesFile, checked_status}
+use Rattle.slice_top.specs.Commands.{Command, check, print, paths, verify, run, replay, certify, upgrade, demo}
 use Rattle.slice_top.specs.Demos.{AcceptsReport, RefusesReport, last_line}
 use Rattle.slice_top.specs.Statuses.{refused_status}
 use Rattle.slice_top.specs.FilesRead.{IsFileOf, RefusesFile}
@@ -172,6 +173,20 @@ IsReplayAnswer told v core = WithFile told v (λ bytes. TellsGivenRun bytes core
 abbrev pub IsCertifyAnswer : Option Files → List ℕ → Core → Answer → Type 0
 IsCertifyAnswer told c core = Stage (RefusesCertificate told c core) (ChecksFile told c core) (λ (x : CertAnswer) a. a ≡ one_line (certify_json x) (checked_status x))
 
+-- what ends the lines of `upgrade`: nothing where the certificate is accepted; what is wrong with it otherwise
+abbrev pub upgrade_end : CertAnswer → Answer
+upgrade_end (Accepted total) = answer_of [] status.Good
+upgrade_end (Rejected r) = one_line (certify_json (Rejected r)) status.Negative
+
+-- what follows the lines of `upgrade` that are all these bytes
+abbrev pub EndsUpgrade : Option Files → List ℕ → Core → List ℕ → Answer → Type 0
+EndsUpgrade told c core out = Stage (RefusesUpgrade told c core out) (UpgradesFile told c core out) (λ (x : CertAnswer) a. a ≡ upgrade_end x)
+
+-- `upgrade F C`: lines of version 2, each when that of C is accepted, and what the checker says of C then
+abbrev pub IsUpgradeAnswer : Option Files → List ℕ → Core → Answer → Type 0
+IsUpgradeAnswer told c core a =
+    (ls : List Line) × (b : Answer) × EndsUpgrade told c core (joined (map line_text ls)) b × (a ≡ after_text (joined (map line_text ls)) b)
+
 -- the report of `verify` ends well, and is checked: how many bytes it has, and for how many goals it is accepted
 abbrev pub CountsReport : Core → List ℕ → Answer → Type 0
 CountsReport core report = Stage (RefusesReport core report) (AcceptsReport core report) (λ n a. a ≡ one_line (demo_json core n (length report)) status.Good)
@@ -193,6 +208,7 @@ IsAnswerTo told (verify f) = WithCore told f IsVerifyAnswer
 IsAnswerTo told (run f v) = WithCore told f (IsRunAnswer told v)
 IsAnswerTo told (replay f v) = WithCore told f (IsReplayAnswer told v)
 IsAnswerTo told (certify f c) = WithCore told f (IsCertifyAnswer told c)
+IsAnswerTo told (upgrade f c) = WithCore told f (IsUpgradeAnswer told c)
 IsAnswerTo told (demo n) = OfText (rounds_text n) IsDemoAnswer
 
 -- the answer to the command of some words, if they are one

@@ -11,6 +11,7 @@ pub data Command : Type 0 where
   run : (protocol values : List ℕ) → Command
   replay : (protocol values : List ℕ) → Command
   certify : (protocol certificate : List ℕ) → Command
+  upgrade : (protocol certificate : List ℕ) → Command
   demo : (rounds : ℕ) → Command
 
 -- the number of rounds that is written as one digit from 1 to 8
@@ -34,12 +35,13 @@ of_one_word word f =
     else (if bytes_eq word (codes "demo") then of_rounds f else None))))
 
 -- `run F V`: the protocol in the file F is run on the valuations in the file V; `replay F V`: with the answers to its cuts
--- that stand there too; `certify F C`: the certificate in the file C is checked for it
+-- that stand there too; `certify F C`: the certificate in the file C is checked for it; `upgrade F C`: and written in version 2
 abbrev pub of_two_files : List ℕ → List ℕ → List ℕ → Option Command
 of_two_files word f v =
     if bytes_eq word (codes "run") then Some (run f v)
     else (if bytes_eq word (codes "replay") then Some (replay f v)
-    else (if bytes_eq word (codes "certify") then Some (certify f v) else None))
+    else (if bytes_eq word (codes "certify") then Some (certify f v)
+    else (if bytes_eq word (codes "upgrade") then Some (upgrade f v) else None)))
 
 -- the command of these words, those after the program's name; the name of a file is any text that isn't empty
 abbrev pub command_of : List (List ℕ) → Option Command

@@ -17,7 +17,7 @@ use Rattle.slice_paths.specs.declared.goal.GoalKind.{GoalKind}
 use Rattle.slice_paths.specs.declared.goal.GoalKind.TheVariants.{Low, High, Envy}
 use Rattle.slice_counter.specs.CounterLine.{counter_json}
 use Rattle.slice_expand.specs.ProgramRun.{ProgramEnd, Done, Stuck}
-use Rattle.slice_top.specs.Commands.{Command, check, print, paths, verify, run, replay, certify, demo}
+use Rattle.slice_top.specs.Commands.{Command, check, print, paths, verify, run, replay, certify, upgrade, demo}
 use Rattle.slice_top.specs.Headline.{run_on}
 
 -- the run is stuck after so many queries, since less than nothing was asked for, or more than the piece is worth; or it is done
@@ -62,4 +62,5 @@ met_file (Some (verify f)) = Some f
 met_file (Some (run f v)) = None
 met_file (Some (replay f v)) = None
 met_file (Some (certify f c)) = None
+met_file (Some (upgrade f c)) = None
 met_file (Some (demo n)) = None

@@ -12,7 +12,7 @@ use Rattle.slice_core.specs.Division.{AreDisjoint, IsEnvious}
 use Rattle.slice_core.specs.Measures.{worth_of, length_of}
 use Rattle.slice_core.specs.Run.{Board}
 use Rattle.slice_expand.specs.ProgramRun.{ProgramEnd, Done, Stuck, Few, Bad, Many, run_program}
-use Rattle.slice_top.specs.Commands.{Command, check, print, paths, verify, run, replay, certify, demo}
+use Rattle.slice_top.specs.Commands.{Command, check, print, paths, verify, run, replay, certify, upgrade, demo}
 
 -- the run of a program on these valuations, with these answers to its cuts
 abbrev pub run_on : List Valuation → PlainProgram → List CutAnswer → ProgramEnd
@@ -66,6 +66,7 @@ shown_file (Some (verify f)) = Some f
 shown_file (Some (run f v)) = None
 shown_file (Some (replay f v)) = None
 shown_file (Some (certify f c)) = Some f
+shown_file (Some (upgrade f c)) = Some f
 shown_file (Some (demo n)) = None
 
 -- how many rounds the protocol has that `demo` makes and decides
@@ -78,4 +79,5 @@ made_rounds (Some (verify f)) = None
 made_rounds (Some (run f v)) = None
 made_rounds (Some (replay f v)) = None
 made_rounds (Some (certify f c)) = None
+made_rounds (Some (upgrade f c)) = None
 made_rounds (Some (demo n)) = Some n

@@ -1,12 +1,14 @@
 -- What the work on a command comes to: what it wrote, and what is still to be written.
-use Rattle.std.specs.Prelude.{◌≡◌, ◌≢◌, ◌↔◌, ℕ, ⊤, List, ◌++◌, Option, None}
+use Rattle.std.specs.Prelude.{◌≡◌, ◌≢◌, ◌↔◌, ◌⊎◌, ℕ, ⊤, List, [], ◌++◌, Option, None}
 use Rattle.std.specs.Str.{IsUtf8}
 use Rattle.slice_io.specs.Files.{Files}
 use Rattle.slice_io.specs.Told.{appended, FrontIsOut}
+use Rattle.slice_core.specs.Tree.{Core}
 use Rattle.slice_json.specs.Texts.{line_of}
 use Rattle.slice_report.specs.Refusals.{refused_json}
 use Rattle.slice_report.specs.declared.refusal.Refusal.{Refusal}
-use Rattle.slice_top.specs.Answers.{Answer, IsAnswer, answer_of}
+use Rattle.slice_top.specs.Answers.{Answer, IsAnswer, IsUpgradeAnswer, answer_of}
+use Rattle.slice_top.specs.Certificates.{IsOutMeanwhile}
 use Rattle.slice_top.specs.Commands.{Command}
 use Rattle.slice_top.specs.Reports.{AreLines, IsOut, Whole}
 use Rattle.slice_top.specs.Statuses.{IsWritten, refused_status}
@@ -37,17 +39,26 @@ pub record WroteFront (before after : Option (List ℕ)) (Kind : Answer → Type
 abbrev pub Ends : (Answer → Type 0) → Option (List ℕ) → Option (List ℕ) → List ℕ → Status → Type 0
 Ends Kind before after bytes s = Wrote before after (λ out. AreLines out × Kind (answer_of (out ++ bytes) s))
 
--- why such work stops: it is refused, where the refusal's line ends such an answer; a file whose turn came couldn't be read,
--- before anything was written; memory was wanted, and whole lines are out; or a write failed within such an answer
-abbrev pub StopsIn : (Answer → Type 0) → (List ℕ → Type 0) → (shelf sink : Type 0) → Option (List ℕ) → Option (List ℕ) → Stop → Type 0
+-- why such work stops: it is refused, where the refusal's line ends such an answer; a file whose turn came after what was
+-- written couldn't be read; memory was wanted, and whole lines are out; or a write failed within such an answer
+abbrev pub StopsIn : (Answer → Type 0) → (List ℕ → List ℕ → Type 0) → (shelf sink : Type 0) → Option (List ℕ) → Option (List ℕ) → Stop → Type 0
 StopsIn Kind Turn shelf sink before after (stop.Refused r) = Ends Kind before after (line_of (refused_json r)) (refused_status r) × IsOfWork r
-StopsIn Kind Turn shelf sink before after (stop.Unread file) = (after ≡ before) × (Turn file × (shelf × IsUtf8 file))
+StopsIn Kind Turn shelf sink before after (stop.Unread file) = Wrote before after (Turn file) × (shelf × IsUtf8 file)
 StopsIn Kind Turn shelf sink before after stop.Memory = Wrote before after (IsOut Kind)
 StopsIn Kind Turn shelf sink before after stop.Unwritten = WroteFront before after Kind × sink
 
 -- the same of work that reads no file
 abbrev pub LinesStop : (Answer → Type 0) → (sink : Type 0) → Option (List ℕ) → Option (List ℕ) → Stop → Type 0
-LinesStop Kind sink before after s = StopsIn Kind (λ file. ⊥) ⊥ sink before after s
+LinesStop Kind sink before after s = StopsIn Kind (λ file out. ⊥) ⊥ sink before after s
+
+-- what is out where the file that is upgraded can't be read: nothing, or the lines that were written meanwhile
+abbrev pub UpgradeLeaves : Option Files → List ℕ → Core → List ℕ → Type 0
+UpgradeLeaves told name core out = (out ≡ []) ⊎ (IsOut (IsUpgradeAnswer told name core) out × IsOutMeanwhile told name core out)
+
+-- why the upgrade of the file of that name stops
+abbrev pub UpgradeStops : Option Files → List ℕ → Core → (shelf sink : Type 0) → Option (List ℕ) → Option (List ℕ) → Stop → Type 0
+UpgradeStops told name core shelf sink before after s =
+    StopsIn (IsUpgradeAnswer told name core) (λ file out. (file ≡ name) × UpgradeLeaves told name core out) shelf sink before after s
 
 -- why the writing of one line stops: memory was wanted, and nothing of it is out; or a write failed
 abbrev pub LineStops : List ℕ → (sink : Type 0) → Option (List ℕ) → Option (List ℕ) → Stop → Type 0

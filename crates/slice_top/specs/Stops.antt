@@ -18,6 +18,7 @@ command_view (command.Verify protocol) = words.verify protocol.now
 command_view (command.Run protocol values) = words.run protocol.now values.now
 command_view (command.Replay protocol values) = words.replay protocol.now values.now
 command_view (command.Certify protocol certificate) = words.certify protocol.now certificate.now
+command_view (command.Upgrade protocol certificate) = words.upgrade protocol.now certificate.now
 command_view (command.Demo rounds) = words.demo rounds
 
 -- a refusal that work gives, whose words are texts

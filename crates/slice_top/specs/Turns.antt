@@ -4,7 +4,7 @@ use Rattle.slice_io.specs.Files.{Files}
 use Rattle.slice_ast.specs.Code.{PlainProgram}
 use Rattle.slice_core.specs.Tree.{Core}
 use Rattle.slice_parse.specs.Laws.{IsProgramOf}
-use Rattle.slice_top.specs.Commands.{Command, check, print, paths, verify, run, replay, certify, demo}
+use Rattle.slice_top.specs.Commands.{Command, check, print, paths, verify, run, replay, certify, upgrade, demo}
 use Rattle.slice_top.specs.FilesRead.{IsFileOf, RefusesFile}
 use Rattle.slice_top.specs.Cores.{IsCoreOf, RefusesCore}
 use Rattle.slice_top.specs.Programs.{RefusesText}
@@ -56,6 +56,7 @@ Reads told (verify f) name = name ≡ f
 Reads told (run f v) name = (name ≡ f) ⊎ ((name ≡ v) × IsSecondTurn told f)
 Reads told (replay f v) name = (name ≡ f) ⊎ ((name ≡ v) × IsSecondTurn told f)
 Reads told (certify f c) name = (name ≡ f) ⊎ ((name ≡ c) × IsSecondTurn told f)
+Reads told (upgrade f c) name = (name ≡ f) ⊎ ((name ≡ c) × IsSecondTurn told f)
 Reads told (demo n) name = ⊥
 
 abbrev pub ReadsFor : Option Files → Option Command → List ℕ → Type 0

@@ -73,8 +73,8 @@ pub(crate) fn check_file<S: Shelf>(
     }
 }
 
-// The stop for the checker's fault on the file of that name.
-fn checker_stop(alloc: Global, name: &str, fault: CertFault) -> Stop
+/// The stop for the checker's fault on the file of that name.
+pub(crate) fn checker_stop(alloc: Global, name: &str, fault: CertFault) -> Stop
     ensures { IsCheckerStop name.now fault result }
 {
     let file = match file_word(alloc, name) {

@@ -38,6 +38,12 @@ pub enum Command<'a> {
         protocol: &'a str,
         certificate: &'a str,
     },
+    /// `upgrade F C`: the certificate of version 1 in the file C is checked for the protocol in the file F, and one of version 2
+    /// written.
+    Upgrade {
+        protocol: &'a str,
+        certificate: &'a str,
+    },
     /// `demo N`: the protocol `rounds` of N rounds, from 1 to 8, is made, decided, and its certificate checked.
     Demo {
         rounds: u32,
@@ -118,6 +124,12 @@ fn of_two_files<'a>(word: &str, protocol: &'a str, second: &'a str) -> Option<Co
     }
     if word == "certify" {
         return Some(Command::Certify {
+            protocol,
+            certificate: second,
+        });
+    }
+    if word == "upgrade" {
+        return Some(Command::Upgrade {
             protocol,
             certificate: second,
         });

@@ -135,6 +135,8 @@ fn finish<K: Sink>(sink: &mut K, bytes: &[u8], status: Status) -> Status
 ///   solution, the line of the counterexample that it gives is the last (`Negative`).
 /// - `certify F C` checks the certificate in the file C, line by line, and writes one line: that it is accepted, or what is
 ///   wrong with it first (`Negative`).
+/// - `upgrade F C` checks the certificate of version 1 in the file C so, and writes one of version 2 meanwhile, line by line; where
+///   C is rejected, what is wrong with it is the last line (`Negative`).
 /// - `demo N` does the same as `verify` with the protocol `rounds` of N rounds, a digit from 1 to 8, in memory, and then checks
 ///   what was written as `certify` does; it writes one line: how many bytes the certificate has, and for how many goals it is
 ///   accepted, or that of the counterexample (`Negative`). It reads no file, and what is too long is told of a file `report`.
@@ -151,7 +153,8 @@ fn finish<K: Sink>(sink: &mut K, bytes: &[u8], status: Status) -> Status
 /// `ReadFault` comes only where the shelf's count of faults rose, and `WriteFault` only where the sink's did; then a front of
 /// what was to be written is out. The sink gets line after line. The shelf is asked for V or C only once F's program keeps the
 /// rules and passes no limit, so a `ReadFault` names it only then. `Memory` may come at any time, and writes a line of its own;
-/// of `paths` and `verify` the lines of goals before a refusal, or before that line, are out.
+/// of `paths`, `verify` and `upgrade` the lines before a refusal, or before that line, are out, with the header where there is one;
+/// of `upgrade` also those before a `ReadFault` of C.
 pub fn top<S: Shelf, K: Sink>(
     alloc: Global,
     words: &Vec<String>,
@@ -172,14 +175,14 @@ pub fn top<S: Shelf, K: Sink>(
     ensures write { result ≡ Status.WriteFault → Rose (K.faults sink.old) (K.faults sink.new) }
 
     // What is written, and the status: the answer over the files that the shelf tells, or over some bytes of each where it
-    // tells none.
+    // tells none (of a certificate then nothing is said but the form of the lines).
     ensures report { Reports (S.told shelf.old) (command_of (map string_bytes words.now.items)) (K.told sink.old) (K.told sink.new) result }
 
     // Unless a device failed or memory was wanted, that is an answer, whole; the laws of completeness say which.
     ensures answered { result ≢ Status.ReadFault → result ≢ Status.WriteFault → result ≢ Status.Memory → (a : Answer)
         × (IsAnswer (S.told shelf.old) (command_of (map string_bytes words.now.items)) a × ((K.told sink.new ≡ appended (K.told sink.old) a.text) × (result ≡ a.status))) }
 
-    // The headline: where `verify F` or `certify F C` ends with Good, whoever wrote C, every run of the protocol in F is fair.
+    // The headline: where `verify F`, `certify F C` or `upgrade F C` ends with Good, whoever wrote C, every run of the protocol in F is fair.
     ensures headline { result ≡ Status.Good → (files : Files) → S.told shelf.old ≡ Some files → IfSome (shown_file (command_of (map string_bytes words.now.items))) (HoldsFairProgram files) }
 
     // Where `verify F` ends with Negative, the last line tells a run of the protocol in F that is stuck or leaves envy.

@@ -16,6 +16,7 @@ mod programs;
 mod runs;
 pub mod status;
 mod stop;
+mod upgrades;
 mod values;
 mod work;
 

@@ -5,6 +5,7 @@ ghost use Rattle.slice_core.specs.Cores.{core_of};
 ghost use Rattle.slice_io.specs.Causes.{Rose};
 ghost use Rattle.slice_top.specs.Answers.{IsAnswer, TellsGivenRun, TellsLeastRun, IsReplayAnswer, IsRunAnswer, answer_of, refused};
 ghost use Rattle.slice_top.specs.Commands as words;
+ghost use Rattle.slice_top.specs.Reports.{ReadsAfter};
 ghost use Rattle.slice_top.specs.Settled.{Ends, StopsIn};
 ghost use Rattle.slice_top.specs.Statuses.{IsWorked};
 ghost use Rattle.slice_top.specs.Stops.{StopsBy, StopsFor, command_view};
@@ -21,6 +22,7 @@ use crate::programs::read_program;
 use crate::runs::{tell_given, tell_least};
 use crate::status::Status;
 use crate::stop::Stop;
+use crate::upgrades::upgrade_core;
 use crate::values::{read_answers, read_values};
 use slice_ast::{Program, print as canonical_text};
 use slice_core::Core;
@@ -47,7 +49,7 @@ pub(crate) fn work<S: Shelf, K: Sink>(
     ensures later { (S.faults shelf.old ≤ S.faults shelf.new) × (K.faults sink.old ≤ K.faults sink.new) }
     ensures worked { IfOk result (λ l. IsWorked l.status) }
     ensures ok { IfOk result (λ l. Ends (IsAnswer (S.told shelf.old) (Some (command_view command.entry))) (K.told sink.old) (K.told sink.new) l.bytes.items l.status) }
-    ensures err { IfErr result (StopsIn (IsAnswer (S.told shelf.old) (Some (command_view command.entry))) (ReadsFor (S.told shelf.old) (Some (command_view command.entry))) (Rose (S.faults shelf.old) (S.faults shelf.new)) (Rose (K.faults sink.old) (K.faults sink.new)) (K.told sink.old) (K.told sink.new)) }
+    ensures err { IfErr result (StopsIn (IsAnswer (S.told shelf.old) (Some (command_view command.entry))) (ReadsAfter (S.told shelf.old) (Some (command_view command.entry))) (Rose (S.faults shelf.old) (S.faults shelf.new)) (Rose (K.faults sink.old) (K.faults sink.new)) (K.told sink.old) (K.told sink.new)) }
 {
     match command {
         Command::Check { protocol } => check(alloc, shelf, protocol),
@@ -60,6 +62,10 @@ pub(crate) fn work<S: Shelf, K: Sink>(
             protocol,
             certificate,
         } => certify(alloc, shelf, protocol, certificate),
+        Command::Upgrade {
+            protocol,
+            certificate,
+        } => upgrade(alloc, shelf, sink, protocol, certificate),
         Command::Demo { rounds } => demo_rounds(alloc, rounds),
     }
 }
@@ -120,7 +126,7 @@ fn paths<S: Shelf, K: Sink>(
     ensures later { (S.faults shelf.old ≤ S.faults shelf.new) × (K.faults sink.old ≤ K.faults sink.new) }
     ensures worked { IfOk result (λ l. IsWorked l.status) }
     ensures ok { IfOk result (λ l. Ends (IsAnswer (S.told shelf.old) (Some (words.paths protocol.now))) (K.told sink.old) (K.told sink.new) l.bytes.items l.status) }
-    ensures err { IfErr result (StopsIn (IsAnswer (S.told shelf.old) (Some (words.paths protocol.now))) (ReadsFor (S.told shelf.old) (Some (words.paths protocol.now))) (Rose (S.faults shelf.old) (S.faults shelf.new)) (Rose (K.faults sink.old) (K.faults sink.new)) (K.told sink.old) (K.told sink.new)) }
+    ensures err { IfErr result (StopsIn (IsAnswer (S.told shelf.old) (Some (words.paths protocol.now))) (ReadsAfter (S.told shelf.old) (Some (words.paths protocol.now))) (Rose (S.faults shelf.old) (S.faults shelf.new)) (Rose (K.faults sink.old) (K.faults sink.new)) (K.told sink.old) (K.told sink.new)) }
 {
     let core = match read_core(alloc, shelf, protocol) {
         Ok(core) => core,
@@ -141,7 +147,7 @@ fn verify<S: Shelf, K: Sink>(
     ensures later { (S.faults shelf.old ≤ S.faults shelf.new) × (K.faults sink.old ≤ K.faults sink.new) }
     ensures worked { IfOk result (λ l. IsWorked l.status) }
     ensures ok { IfOk result (λ l. Ends (IsAnswer (S.told shelf.old) (Some (words.verify protocol.now))) (K.told sink.old) (K.told sink.new) l.bytes.items l.status) }
-    ensures err { IfErr result (StopsIn (IsAnswer (S.told shelf.old) (Some (words.verify protocol.now))) (ReadsFor (S.told shelf.old) (Some (words.verify protocol.now))) (Rose (S.faults shelf.old) (S.faults shelf.new)) (Rose (K.faults sink.old) (K.faults sink.new)) (K.told sink.old) (K.told sink.new)) }
+    ensures err { IfErr result (StopsIn (IsAnswer (S.told shelf.old) (Some (words.verify protocol.now))) (ReadsAfter (S.told shelf.old) (Some (words.verify protocol.now))) (Rose (S.faults shelf.old) (S.faults shelf.new)) (Rose (K.faults sink.old) (K.faults sink.new)) (K.told sink.old) (K.told sink.new)) }
 {
     let core = match read_core(alloc, shelf, protocol) {
         Ok(core) => core,
@@ -266,6 +272,29 @@ fn certify<S: Shelf>(
         Err(stop) => return Err(stop),
     };
     certify_core(alloc, shelf, &core, certificate)
+}
+
+// The lines of `upgrade`.
+fn upgrade<S: Shelf, K: Sink>(
+    alloc: Global,
+    shelf: &mut S,
+    sink: &mut K,
+    protocol: &str,
+    certificate: &str,
+) -> Result<Output, Stop>
+    requires protocol { S.CanAsk shelf.old protocol.now }
+    requires certificate { IsSecondTurn (S.told shelf.old) protocol.now → S.CanAsk shelf.old certificate.now }
+    ensures same { S.told shelf.new ≡ S.told shelf.old }
+    ensures later { (S.faults shelf.old ≤ S.faults shelf.new) × (K.faults sink.old ≤ K.faults sink.new) }
+    ensures worked { IfOk result (λ l. IsWorked l.status) }
+    ensures ok { IfOk result (λ l. Ends (IsAnswer (S.told shelf.old) (Some (words.upgrade protocol.now certificate.now))) (K.told sink.old) (K.told sink.new) l.bytes.items l.status) }
+    ensures err { IfErr result (StopsIn (IsAnswer (S.told shelf.old) (Some (words.upgrade protocol.now certificate.now))) (ReadsAfter (S.told shelf.old) (Some (words.upgrade protocol.now certificate.now))) (Rose (S.faults shelf.old) (S.faults shelf.new)) (Rose (K.faults sink.old) (K.faults sink.new)) (K.told sink.old) (K.told sink.new)) }
+{
+    let core = match read_core(alloc, shelf, protocol) {
+        Ok(core) => core,
+        Err(stop) => return Err(stop),
+    };
+    upgrade_core(alloc, shelf, sink, &core, certificate)
 }
 
 // What is told of the least run on the valuations in a file.

@@ -1,13 +1,11 @@
 -- The lines of a report that closes without envy are a certificate.
-use Rattle.std.proofs.Common.{◌≡◌, ◌∙◌, ℕ, ◌≤◌, arith, refl, sym, ap, subst, Bool, true, false, List, [], ◌∷◌, ◌++◌, length, map, drop, Option, append_assoc, append-nil, inr}
+use Rattle.std.proofs.Common.{◌≡◌, ◌∙◌, ℕ, ◌≤◌, arith, sym, ap, subst, Bool, true, false, List, [], ◌∷◌, ◌++◌, length, drop, Option, append-nil}
 use Rattle.std.specs.Prelude.{nat_lt, if◌then◌else◌}
 use Rattle.std.specs.List.{All}
-use Rattle.std.proofs.lemmas.List.{length-append, length-drop}
+use Rattle.std.proofs.lemmas.List.{length-drop}
 use Rattle.std.proofs.lemmas.List.Elements.{All-nil}
 use Rattle.slice_num.specs.Pieces.{joined}
 use Rattle.slice_io.specs.Told.{appended}
-use Rattle.slice_io.specs.Lines.{lines_of}
-use Rattle.slice_io.proofs.Gathering.{lines_joined}
 use Rattle.slice_core.specs.Cores.{core_of}
 use Rattle.slice_core.specs.Tree.{Core}
 use Rattle.slice_core.specs.WellFormed.{IsWellFormed}
@@ -15,46 +13,16 @@ use Rattle.slice_paths.specs.Events.{Event, Meets, Breaks, Gives, NoMore, Overfl
 use Rattle.slice_paths.specs.Goals.{Goal, goals}
 use Rattle.slice_paths.specs.RunLaws.{IsRefuted}
 use Rattle.slice_paths.specs.Streams.{Stream}
-use Rattle.slice_cert.specs.declared.line.Line.{Line}
-use Rattle.slice_cert.specs.declared.line.Line.TheVariants.{Header, Closing}
+use Rattle.slice_cert.specs.declared.line.Line.TheVariants.{Closing}
 use Rattle.slice_cert.specs.CertLines.{line_text}
-use Rattle.slice_check.specs.Certificate.{Accepts, TakeInOrder, AreShort, AreLines}
+use Rattle.slice_check.specs.Certificate.{TakeInOrder}
+use Rattle.slice_check.specs.Upgrading.{ReadsBack}
+use Rattle.slice_check.proofs.Certified.{certified}
+use Rattle.slice_check.proofs.LinesOut.{one_more_out, texts_more}
 use Rattle.slice_verify.specs.Report.{IsAccepted, texts_after}
-use Rattle.slice_verify.specs.Working.{GoesOn, NoneComes, ReadsBack}
+use Rattle.slice_verify.specs.Working.{GoesOn, NoneComes}
 use Rattle.slice_verify.specs.declared.verifier.Decision.TheVariants.{EnvyFree}
-use Rattle.slice_verify.proofs.LinesOut.{one_more_out, texts_more}
-use Rattle.slice_verify.proofs.Standing.{AllReadBack, AllShort, Standing, read_more, short_more}
-use Rattle.slice_verify.proofs.Short.{header_short, closing_short}
-
--- ---- the lines of the bytes
-
--- the texts of lines without their LF
-texts_of : (ls : List Line) → AllReadBack ls → List (List ℕ)
-texts_of [] h = []
-texts_of (l ∷ ls) h = h.0.0 ∷ texts_of ls h.1
-
-lines_are : (ls : List Line) (h : AllReadBack ls) → lines_of (joined (map line_text ls)) ≡ texts_of ls h
-unfolding texts_of
-lines_are [] h = refl
-lines_are (l ∷ ls) h =
-    let rest = joined (map line_text ls) in
-    ap lines_of (ap (λ (bs : List ℕ). bs ++ rest) h.0.1 ∙ append_assoc h.0.0 (10 ∷ []) rest)
-    ∙ (lines_joined h.0.0 rest h.0.2 ∙ ap (λ ts. h.0.0 ∷ ts) (lines_are ls h.1))
-
-each_line : (ls : List Line) (h : AllReadBack ls) → AreLines (texts_of ls h) ls
-unfolding texts_of
-each_line [] h = tt
-each_line (l ∷ ls) h = (h.0.3, each_line ls h.1)
-
--- ---- none is too long
-each_short : (ls : List Line) (h : AllReadBack ls) → AllShort ls → AreShort (texts_of ls h)
-unfolding texts_of
-each_short [] h s = tt
-each_short (l ∷ ls) h s =
-    let e = ap length h.0.1 in
-    let f = length-append h.0.0 (10 ∷ []) in
-    let g = s.0 in
-    (omega (arith, e, f, g), each_short ls h.1 s.1)
+use Rattle.slice_verify.proofs.Standing.{Standing}
 
 -- ---- all goals
 none_left : (ahead : List Event) (gs : List Goal) (n : ℕ) → Tell ahead gs n → next_goal ahead n ≡ NoMore → gs ≡ []
@@ -82,25 +50,6 @@ pub all_refuted : (core : Core) (old now : Option (List ℕ)) (s : Stream) → c
 all_refuted core old now s same g h e = h.refuted.all (subst (All (IsRefuted core)) (sym (all_given core s same g e)) (All-nil _))
 
 -- ---- the whole report
-
--- lines that take all goals, between the header and the closing line, are a certificate
-pub certified : (core : Core) (ls : List Line) (n : ℕ) → IsWellFormed core → TakeInOrder core 2 0 (goals core) ls → n ≡ length (goals core) → AllReadBack (Header 2 core.name core.agents ∷ ls) → AllShort ls → ReadsBack (Closing n)
-    → Accepts core (joined (texts_after core (ls ++ Closing n ∷ [])))
-certified core ls n formed takes all back few close =
-    let first : List Line = Header 2 core.name core.agents ∷ ls in
-    let lines : List Line = first ++ Closing n ∷ [] in
-    let read : AllReadBack lines = read_more first (Closing n) back close in
-    let short : AllShort lines = short_more first (Closing n) (header_short core.name core.agents formed.named, few) (closing_short n) in
-    let texts : lines_of (joined (map line_text lines)) ≡ texts_of lines read = lines_are lines read in
-    let total : lines ≡ first ++ Closing (length (goals core)) ∷ [] = ap (λ (k : ℕ). first ++ Closing k ∷ []) all in
-    record {
-      short = subst AreShort (sym texts) (each_short lines read short);
-      body = ls;
-      version = 2;
-      known = inr refl;
-      takes = takes;
-      lines = subst (λ (ts : List (List ℕ)). AreLines ts (first ++ Closing (length (goals core)) ∷ [])) (sym texts) (subst (AreLines (texts_of lines read)) total (each_line lines read));
-    }
 
 pub accepted : (core : Core) (old now new : Option (List ℕ)) (s t : Stream) (n : ℕ) → IsWellFormed core → core_of s.core ≡ core → GoesOn s → Standing core old now s.given s.ahead → NoneComes s t → n ≡ t.given → ReadsBack (Closing n)
     → new ≡ appended now (line_text (Closing n)) → IsAccepted core old new (EnvyFree n)

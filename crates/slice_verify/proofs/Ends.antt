@@ -22,14 +22,15 @@ use Rattle.slice_simplex.specs.ProverAnswer.{IsProverAnswer, SolvedBy}
 use Rattle.slice_cert.specs.declared.line.Line.{Line}
 use Rattle.slice_cert.specs.declared.line.Line.TheVariants.{Header}
 use Rattle.slice_cert.specs.CertLines.{line_text}
+use Rattle.slice_check.proofs.LinesOut.{nothing_out, one_more_out, front_out, texts_more}
 use Rattle.slice_counter.specs.declared.counter.Counterexample.{Counterexample}
-use Rattle.slice_verify.specs.Report.{IsTaken, TakeFirst, IsReached, IsCounterOf, IsDecision, texts_after, report_texts, closing_text, AreOut, DecisionIs, Begins, none, begun, covered, part, whole, FaultIs, pivot_limit}
+use Rattle.slice_check.specs.Upgrades.{AreOut}
+use Rattle.slice_verify.specs.Report.{IsTaken, TakeFirst, IsReached, IsCounterOf, IsDecision, texts_after, report_texts, closing_text, DecisionIs, Begins, none, begun, covered, part, whole, FaultIs, pivot_limit}
 use Rattle.slice_verify.specs.Working.{IsNextOf, NoneComes, GoalStops, LineIsOut, LineStops, goal_line, stop_at}
 use Rattle.slice_verify.specs.declared.verifier.Decision.{Decision}
 use Rattle.slice_verify.specs.declared.verifier.Decision.TheVariants.{EnvyFree, Found}
 use Rattle.slice_verify.specs.declared.verifier.VerifyFault.{VerifyFault}
 use Rattle.slice_verify.specs.declared.verifier.VerifyFault.TheVariants.{GoalLimit, FormOverflow, PivotLimit, PivotOverflow, HeightLimit, WriteFault, Memory}
-use Rattle.slice_verify.proofs.LinesOut.{nothing_out, one_more_out, front_out, texts_more}
 use Rattle.slice_verify.proofs.Standing.{Standing, reached}
 use Rattle.slice_verify.proofs.Takes.{too_many}
 

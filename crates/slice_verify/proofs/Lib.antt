@@ -1,11 +1,7 @@
 pub mod Passing
-pub mod LinesOut
 pub mod NextGoals
 pub mod Settling
-pub mod Covers
 pub mod Takes
 pub mod Standing
 pub mod Ends
-pub mod RowCount
-pub mod Short
 pub mod Accepted

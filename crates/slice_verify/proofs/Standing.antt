@@ -1,6 +1,6 @@
 -- What stands after the goals that were taken.
 use Rattle.std.proofs.Common.{◌≡◌, ◌∙◌, ℕ, ◌-◌, ◌<◌, ◌≤◌, arith, refl, sym, ap, subst, List, [], ◌∷◌, ◌++◌, length, drop, ℤ, Option, append_assoc}
-use Rattle.std.specs.Prelude.{⊤, take}
+use Rattle.std.specs.Prelude.{take}
 use Rattle.std.specs.List.{All}
 use Rattle.std.proofs.lemmas.List.{drop-drop, take-append-drop}
 use Rattle.std.proofs.lemmas.List.Elements.{All-append}
@@ -17,31 +17,16 @@ use Rattle.slice_paths.specs.Streams.{Stream, TellsRest}
 use Rattle.slice_cert.specs.declared.line.Line.{Line}
 use Rattle.slice_cert.specs.declared.line.Line.TheVariants.{Header}
 use Rattle.slice_cert.specs.CertLines.{line_text}
-use Rattle.slice_check.specs.Certificate.{TakeInOrder, line_limit}
-use Rattle.slice_verify.specs.Report.{IsTaken, LeadsTo, AreTaken, TakeFirst, IsReached, texts_after, AreOut}
-use Rattle.slice_verify.specs.Working.{ReadsBack, GoesOn, IsNextOf, IsSettled, goal_line}
-use Rattle.slice_verify.proofs.LinesOut.{one_out, one_more_out, texts_more}
-use Rattle.slice_verify.proofs.RowCount.{few_rows}
-use Rattle.slice_verify.proofs.Short.{short_line_short}
+use Rattle.slice_check.specs.Certificate.{TakeInOrder}
+use Rattle.slice_check.specs.Upgrades.{AreOut}
+use Rattle.slice_check.specs.Upgrading.{AllBrief, AllReadBack, ReadsBack}
+use Rattle.slice_check.proofs.Certified.{brief_more, read_more}
+use Rattle.slice_check.proofs.LinesOut.{one_out, one_more_out, texts_more}
+use Rattle.slice_check.proofs.RowCount.{few_rows}
+use Rattle.slice_check.proofs.Short.{short_line_short}
+use Rattle.slice_verify.specs.Report.{IsTaken, LeadsTo, AreTaken, TakeFirst, IsReached, texts_after}
+use Rattle.slice_verify.specs.Working.{GoesOn, IsNextOf, IsSettled, goal_line}
 use Rattle.slice_verify.proofs.Takes.{LineTakes, last_is_goal, line_takes}
-
--- each line reads back
-abbrev pub AllReadBack : List Line → Type 0
-AllReadBack [] = ⊤
-AllReadBack (l ∷ ls) = ReadsBack l × AllReadBack ls
-
-pub read_more : (ls : List Line) (l : Line) → AllReadBack ls → ReadsBack l → AllReadBack (ls ++ l ∷ [])
-read_more [] l h r = (r, tt)
-read_more (x ∷ ls) l h r = (h.0, read_more ls l h.1 r)
-
--- none is too long
-abbrev pub AllShort : List Line → Type 0
-AllShort [] = ⊤
-AllShort (l ∷ ls) = (length (line_text l) ≤ line_limit) × AllShort ls
-
-pub short_more : (ls : List Line) (l : Line) → AllShort ls → length (line_text l) ≤ line_limit → AllShort (ls ++ l ∷ [])
-short_more [] l h k = (k, tt)
-short_more (x ∷ ls) l h k = (h.0, short_more ls l h.1 k)
 
 -- what is said of the first n goals: with lines that take the others in order these lines take all; and where the others are
 -- refuted, all are
@@ -54,7 +39,7 @@ pub record Standing (core : Core) (old now : Option (List ℕ)) (n : ℕ) (ahead
   pub lines : List Line
   pub taken : TakeFirst core lines n ahead
   pub refuted : AreRefuted core lines n
-  pub short : AllShort lines
+  pub short : AllBrief lines
   pub read : AllReadBack (Header 2 core.name core.agents ∷ lines)
   pub out : AreOut old now (texts_after core lines)
 
@@ -133,7 +118,7 @@ goes_on laws core formed old now out s t u g same h n d =
       taken = taken_more core 0 (events_of core) h.lines l g.number s.ahead u.given u.ahead r.taken
           (record { goal = g; later = t.ahead; comes = r.comes; multipliers = m; refuted = d.out.0; line = refl }, x.leads, d.few);
       refuted = refuted_more core h.lines g t l u first x;
-      short = short_more h.lines l h.short (let rows = few_rows core g formed (last_is_goal core t g here n.last) in let long = d.out.0.refutes.same_length in let text = short_line_short core.agents g.number m in omega (arith, rows, long, text));
+      short = brief_more h.lines l h.short (let rows = few_rows core g formed (last_is_goal core t g here n.last) in let long = d.out.0.refutes.same_length in let text = short_line_short core.agents g.number m in omega (arith, rows, long, text));
       read = read_more (Header 2 core.name core.agents ∷ h.lines) l h.read d.reads;
       out = subst (AreOut old out) (sym (texts_more core h.lines l)) (one_more_out old now out (texts_after core h.lines) (line_text l) h.out d.out.1);
     }

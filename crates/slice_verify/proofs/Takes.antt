@@ -19,9 +19,10 @@ use Rattle.slice_cert.specs.declared.line.Line.TheVariants.{Refutation, Cover}
 use Rattle.slice_cert.specs.ShortForms.{needed, used}
 use Rattle.slice_cert.proofs.Used.{short_is}
 use Rattle.slice_check.specs.Certificate.{RefutesFirst, CoversFirst, Takes}
+use Rattle.slice_check.specs.Upgrading.{HasPassed, ShareThem}
+use Rattle.slice_check.proofs.Covers.{has_cover, cover_refuted, has_front, shared_refuted}
 use Rattle.slice_verify.specs.Report.{LeadsTo}
-use Rattle.slice_verify.specs.Working.{AreTooMany, GoesOn, HasPassed, IsPassed, ShareThem, goal_line}
-use Rattle.slice_verify.proofs.Covers.{has_cover, cover_refuted, has_front, shared_refuted}
+use Rattle.slice_verify.specs.Working.{AreTooMany, GoesOn, IsPassed, goal_line}
 
 -- ---- the goal given last
 contains_dropped : (n : ℕ) (xs : List Goal) (x : Goal) (rest : List Goal) → drop n xs ≡ x ∷ rest → Contains xs x

@@ -23,6 +23,7 @@ use Rattle.slice_cert.specs.declared.line.Line.TheVariants.{Header, Refutation, 
 use Rattle.slice_cert.specs.CertLines.{line_text}
 use Rattle.slice_cert.specs.ShortForms.{short_line}
 use Rattle.slice_check.specs.Certificate.{Accepts}
+use Rattle.slice_check.specs.Upgrades.{AreOut}
 use Rattle.slice_counter.specs.Counter.{IsCounterexample, IsLow, valuations_of, answers_of}
 use Rattle.slice_counter.specs.CounterLine.{counter_text}
 use Rattle.slice_counter.specs.Heights.{IsFirstHigh}
@@ -142,10 +143,6 @@ closing_text (Found c) = counter_text c
 -- all lines of a report
 abbrev pub report_texts : Core → List Line → Decision → List (List ℕ)
 report_texts core ls d = texts_after core ls ++ closing_text d ∷ []
-
--- these lines, one after another, were put behind what was out
-abbrev pub AreOut : Option (List ℕ) → Option (List ℕ) → List (List ℕ) → Type 0
-AreOut old new texts = new ≡ appended old (joined texts)
 
 -- ---- answers
 

@@ -1,5 +1,5 @@
 -- For the clauses of private functions. No public clause speaks of these.
-use Rattle.std.specs.Prelude.{◌≡◌, ◌⊎◌, ℕ, ◌+◌, ◌<◌, ◌≤◌, ⊤, ℤ, List, drop, suc, Some, None}
+use Rattle.std.specs.Prelude.{◌≡◌, ◌⊎◌, ℕ, ◌+◌, ◌<◌, ◌≤◌, ⊤, ℤ, List, suc, Some, None}
 use Rattle.std.specs.declared.option.Option.{Option}
 use Rattle.slice_io.specs.Told.{appended, FrontIsOut}
 use Rattle.slice_core.specs.Cores.{core_of}
@@ -8,8 +8,8 @@ use Rattle.slice_linear.specs.Rows.{AreRowsOver, width}
 use Rattle.slice_atoms.specs.Addresses.{atom_count}
 use Rattle.slice_paths.specs.Coming.{AreGoals, goals_ahead}
 use Rattle.slice_paths.specs.Events.{Gives, NoMore, goal_limit, next_goal}
-use Rattle.slice_paths.specs.Fronts.{ShareFirst, events_after, front_of}
-use Rattle.slice_paths.specs.Goals.{Goal, goals}
+use Rattle.slice_paths.specs.Fronts.{events_after}
+use Rattle.slice_paths.specs.Goals.{Goal}
 use Rattle.slice_paths.specs.Streams.{Stream, TellsRest, IsGivenLast}
 use Rattle.slice_paths.specs.Ways.{way_of}
 use Rattle.slice_paths.specs.declared.goal.GoalFault.{GoalFault}
@@ -20,8 +20,9 @@ use Rattle.slice_simplex.specs.declared.prover.ProveFault.{ProveFault}
 use Rattle.slice_simplex.specs.declared.prover.ProveFault.TheVariants as prove_fault
 use Rattle.slice_cert.specs.declared.line.Line.{Line}
 use Rattle.slice_cert.specs.declared.line.Line.TheVariants.{Header, Refutation, Cover, Closing}
-use Rattle.slice_cert.specs.CertLines.{line_text, IsWrittenLine}
+use Rattle.slice_cert.specs.CertLines.{line_text}
 use Rattle.slice_cert.specs.ShortForms.{short_line}
+use Rattle.slice_check.specs.Upgrading.{ReadsBack, ShareThem}
 use Rattle.slice_counter.specs.Heights.{IsFirstHigh}
 use Rattle.slice_counter.specs.declared.counter.Counterexample.{Counterexample}
 use Rattle.slice_verify.specs.Report.{IsRefutedBy, IsCounterOf, pivot_limit}
@@ -29,10 +30,6 @@ use Rattle.slice_verify.specs.declared.verifier.VerifyFault.{VerifyFault}
 use Rattle.slice_verify.specs.declared.verifier.VerifyFault.TheVariants.{GoalLimit, FormOverflow, PivotLimit, PivotOverflow, HeightLimit, WriteFault, Memory}
 
 -- ---- lines
-
--- the text of the line is one line of a file, and read again it is the line
-abbrev pub ReadsBack : Line → Type 0
-ReadsBack l = IsWrittenLine (line_text l) l
 
 -- a line isn't out, or a front of it is
 abbrev pub LineStops : Option (List ℕ) → Option (List ℕ) → List ℕ → VerifyFault → Type 0
@@ -69,17 +66,6 @@ stop_at (goal_fault.Overflow n) = FormOverflow n
 stop_at goal_fault.Memory = Memory
 
 -- ---- goals that a line takes beside the one given last
-
--- the goal given last has the passed choices of a line that covers goals
-abbrev pub HasPassed : Stream → Line → Type 0
-HasPassed s (Header version protocol agents) = ⊤
-HasPassed s (Refutation goal multipliers) = ⊤
-HasPassed s (Cover goal passed multipliers) = front_of passed (core_of s.core).tree s.last ≡ None → ⊥
-HasPassed s (Closing total) = ⊤
-
--- so many goals that weren't given have them too, and come first
-abbrev pub ShareThem : Stream → ℕ → ℕ → Type 0
-ShareThem s passed count = ShareFirst (core_of s.core) passed s.last (drop s.given (goals (core_of s.core))) count
 
 -- a line that covers goals passed over these; another line over none
 abbrev pub IsPassed : Stream → Line → Stream → Type 0

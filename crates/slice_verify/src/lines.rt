@@ -5,8 +5,9 @@ ghost use Rattle.slice_io.specs.Told.{appended};
 ghost use Rattle.slice_core.specs.Cores.{core_of};
 ghost use Rattle.slice_cert.specs.CertLines.{line_text, MayStand};
 ghost use Rattle.slice_cert.specs.declared.line.Line.TheVariants.{Header, Closing};
+ghost use Rattle.slice_check.specs.Upgrading.{ReadsBack};
 ghost use Rattle.slice_verify.specs.Report.{closing_text};
-ghost use Rattle.slice_verify.specs.Working.{LineStops, ReadsBack};
+ghost use Rattle.slice_verify.specs.Working.{LineStops};
 ghost use Rattle.slice_verify.specs.declared.verifier.Decision.TheVariants.{EnvyFree, Found};
 
 use crate::verifier::{Decision, VerifyFault};

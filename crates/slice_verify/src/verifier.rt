@@ -9,8 +9,9 @@ ghost use Rattle.slice_paths.specs.Events.{events_of, next_goal};
 ghost use Rattle.slice_paths.specs.Goals.{Goal as GoalOf, goals};
 ghost use Rattle.slice_paths.specs.Streams.{IsGivenLast, TellsRest};
 ghost use Rattle.slice_paths.specs.Told.{IsRefusal};
+ghost use Rattle.slice_check.specs.Upgrading.{HasPassed};
 ghost use Rattle.slice_verify.specs.Report.{DecisionIs, FaultIs, IsAccepted, IsCounterOf, IsExact, IsRefutedBy};
-ghost use Rattle.slice_verify.specs.Working.{GoalIs, GoalStops, GoesOn, HasPassed, IsNextOf, IsPassed, IsTooHigh, NoneComes, PassStops, stop_at, stop_for};
+ghost use Rattle.slice_verify.specs.Working.{GoalIs, GoalStops, GoesOn, IsNextOf, IsPassed, IsTooHigh, NoneComes, PassStops, stop_at, stop_for};
 ghost use Rattle.slice_verify.specs.declared.verifier.VerifyFault.TheVariants as fault;
 
 use crate::lines::{close, close_found, put_header, put_line};
@@ -107,7 +108,8 @@ const PIVOT_LIMIT: u64 = 100_000;
 /// `GoalLimit` and `FormOverflow` come with the goals that are made, `GoalLimit` also where a line that is out covers more
 /// than may be given; `PivotLimit` and `PivotOverflow` exactly where the prover doesn't decide the goal that is made,
 /// `HeightLimit` exactly where the solution has a number above 10^18, the first by agent and then atom. `WriteFault` comes
-/// only where a write failed, `Memory` only for want of memory. The lines so far are out then.
+/// only where a write failed, `Memory` for want of memory (and where a number of a form on the way to a
+/// cover line's choices, which fitted before, didn't fit once more). The lines so far are out then.
 pub fn verify<K: Sink>(alloc: Global, core: &Core, sink: &mut K) -> Result<Decision, VerifyFault>
     ensures decision { IfOk result (λ d. DecisionIs (core_of core.now) (K.told sink.old) (K.told sink.new) d) }
     ensures fault { IfErr result (λ e. FaultIs (core_of core.now) (K.told sink.old) (K.told sink.new) e) }

@@ -13,23 +13,23 @@ use sqlite_items::{Boxed, Items};
 use std::alloc::{AllocError, Global};
 use std::test::Fail;
 
-const FIRST: &str = "{\"agents\":2,\"certificate\":1,\"protocol\":\"z\"}";
+pub(super) const FIRST: &str = "{\"agents\":2,\"certificate\":1,\"protocol\":\"z\"}";
 
-const SECOND: &str = "{\"agents\":2,\"certificate\":2,\"protocol\":\"z\"}";
+pub(super) const SECOND: &str = "{\"agents\":2,\"certificate\":2,\"protocol\":\"z\"}";
 
-const THIRD: &str = "{\"agents\":2,\"certificate\":3,\"protocol\":\"z\"}";
+pub(super) const THIRD: &str = "{\"agents\":2,\"certificate\":3,\"protocol\":\"z\"}";
 // The whole is above 0, two agents' values make it up, and 0 is at least it: 1 * N + 1 * -N = 0.
-const COVER: &str = "{\"cover\":1,\"goal\":0,\"multipliers\":[\"1\",\"0\",\"0\",\"1\"]}";
+pub(super) const COVER: &str = "{\"cover\":1,\"goal\":0,\"multipliers\":[\"1\",\"0\",\"0\",\"1\"]}";
 
-const GOAL_0: &str = "{\"goal\":0,\"multipliers\":[\"1\",\"0\",\"0\",\"1\",\"0\"]}";
+pub(super) const GOAL_0: &str = "{\"goal\":0,\"multipliers\":[\"1\",\"0\",\"0\",\"1\",\"0\"]}";
 
-const GOAL_1: &str = "{\"goal\":1,\"multipliers\":[\"1\",\"0\",\"0\",\"1\",\"0\"]}";
+pub(super) const GOAL_1: &str = "{\"goal\":1,\"multipliers\":[\"1\",\"0\",\"0\",\"1\",\"0\"]}";
 // Nobody has a share, so the own rows are 0 > 0.
-const GOAL_2: &str = "{\"goal\":2,\"multipliers\":[\"0\",\"0\",\"0\",\"0\",\"1\"]}";
+pub(super) const GOAL_2: &str = "{\"goal\":2,\"multipliers\":[\"0\",\"0\",\"0\",\"0\",\"1\"]}";
 
-const GOAL_3: &str = "{\"goal\":3,\"multipliers\":[\"0\",\"0\",\"0\",\"0\",\"1\"]}";
+pub(super) const GOAL_3: &str = "{\"goal\":3,\"multipliers\":[\"0\",\"0\",\"0\",\"0\",\"1\"]}";
 
-const CLOSING: &str = "{\"closing\":\"envy-free\",\"goals\":4}";
+pub(super) const CLOSING: &str = "{\"closing\":\"envy-free\",\"goals\":4}";
 
 const CASES: &[(&'static [&'static str], CertAnswer)] = &[
     (
@@ -106,7 +106,7 @@ fn known(alloc: Global, value: Frac) -> Result<Lin, AllocError>
 }
 
 // Whether 0 is at least 1; the cake goes to agent 1 where it is, and to nobody where it isn't.
-fn never(alloc: Global) -> Result<Core, Fail> {
+pub(super) fn never(alloc: Global) -> Result<Core, Fail> {
     let give = Node::Give {
         piece: 0,
         agent: 1,
@@ -122,12 +122,19 @@ fn never(alloc: Global) -> Result<Core, Fail> {
     Ok(Core::new(Word::new(alloc, b"z")?, 2, root))
 }
 
-fn shelf_of(alloc: Global, lines: &[&str]) -> Result<MemoryShelf, AllocError> {
+// The lines, with a LF behind each.
+pub(super) fn bytes_of(alloc: Global, lines: &[&str]) -> Result<Vec<u8>, AllocError> {
     let mut bytes = Vec::new(alloc);
     for line in lines {
         bytes.extend_from_slice(line.as_bytes())?;
         bytes.push(10)?;
     }
+    Ok(bytes)
+}
+
+// A shelf on which they are the file `c`.
+pub(super) fn shelf_of(alloc: Global, lines: &[&str]) -> Result<MemoryShelf, AllocError> {
+    let bytes = bytes_of(alloc, lines)?;
     let name = String::from_str(alloc, "c")?;
     let files = vec![in alloc; NamedFile { name, bytes }]?;
     Ok(MemoryShelf::new(files, 100, Vec::new(alloc)))

@@ -49,7 +49,7 @@ returns-in-Err-Unread-clause-settled g c =
     let h = rw c.in-Err-Unread.field-0-is at c.in-Err-Unread.ensures.err in
     let e = c.refused-in-Err-Unread.result in
     subst (λ (k : Option Command). Settled told k shelf sink before after e) c.in-Some.ensures
-    (unread_settled told (command_view c.in-Some.command) shelf before after sink c.in-Err-Unread.file h.0 h.1.0 h.1.1.0 e c.refused-in-Err-Unread.ensures)
+    (unread_settled told (command_view c.in-Some.command) shelf before after sink c.in-Err-Unread.file h.0 h.1.0 e c.refused-in-Err-Unread.ensures)
 
 pub returns-in-Err-Memory-clause-settled : goal.returns-in-Err-Memory-clause-settled
 returns-in-Err-Memory-clause-settled g c =

@@ -4,9 +4,10 @@ use Rattle.slice_core.specs.Cores.{core_of}
 use Rattle.slice_cert.specs.CertLines.{line_text}
 use Rattle.slice_cert.specs.declared.line.Line.{Line}
 use Rattle.slice_cert.specs.ShortForms.{short_line}
-use Rattle.slice_verify.specs.Working.{HasPassed, IsPassed, PassStops, ReadsBack, goal_line}
+use Rattle.slice_check.specs.Upgrading.{HasPassed, ReadsBack}
+use Rattle.slice_check.proofs.RowCount.{few_rows}
+use Rattle.slice_verify.specs.Working.{IsPassed, PassStops, goal_line}
 use Rattle.slice_verify.proofs.Passing.{err_map, on_map_three}
-use Rattle.slice_verify.proofs.RowCount.{few_rows}
 use Rattle.slice_verify.proofs.Settling.{pass_stops}
 use Rattle.slice_verify.proofs.Takes.{has_passed, last_is_goal}
 use Rattle.slice_verify.proofs.verifier.settle.Goals as goal

@@ -1,5 +1,5 @@
 -- Lines that are out, one after another.
-use Rattle.std.proofs.Common.{◌≡◌, ◌∙◌, ℕ, suc, ◌+◌, arith, refl, sym, ap, List, [], ◌∷◌, ◌++◌, length, take, map, Option, Some, None, append_assoc, append-nil}
+use Rattle.std.proofs.Common.{◌≡◌, ◌∙◌, ℕ, suc, ◌+◌, arith, refl, sym, ap, subst, List, [], ◌∷◌, ◌++◌, length, take, map, Option, Some, None, append_assoc, append-nil}
 use Rattle.std.proofs.lemmas.List.{length-append}
 use Rattle.slice_num.specs.Pieces.{joined}
 use Rattle.slice_io.specs.Told.{appended, appended-append, FrontIsOut}
@@ -7,7 +7,7 @@ use Rattle.slice_core.specs.Tree.{Core}
 use Rattle.slice_cert.specs.declared.line.Line.{Line}
 use Rattle.slice_cert.specs.declared.line.Line.TheVariants.{Header}
 use Rattle.slice_cert.specs.CertLines.{line_text}
-use Rattle.slice_verify.specs.Report.{texts_after, AreOut}
+use Rattle.slice_check.specs.Upgrades.{AreOut, texts_of}
 
 joined_more : (ls : List (List ℕ)) (l : List ℕ) → joined (ls ++ l ∷ []) ≡ joined ls ++ l
 joined_more [] l = append-nil l
@@ -45,6 +45,28 @@ pub map-append : (ls ks : List Line) → map line_text (ls ++ ks) ≡ map line_t
 map-append [] ks = refl
 map-append (l ∷ ls) ks = ap (λ ts. line_text l ∷ ts) (map-append ls ks)
 
--- a line more
-pub texts_more : (core : Core) (ls : List Line) (l : Line) → texts_after core (ls ++ l ∷ []) ≡ texts_after core ls ++ line_text l ∷ []
+-- ---- a line more
+pub line_out : (old now new : Option (List ℕ)) (ls : List Line) (l : Line) → AreOut old now (map line_text ls) → new ≡ appended now (line_text l) → AreOut old new (map line_text (ls ++ l ∷ []))
+line_out old now new ls l out e = subst (AreOut old new) (sym (map-append ls (l ∷ []))) (one_more_out old now new (map line_text ls) (line_text l) out e)
+
+pub front_of_line_out : (old now new : Option (List ℕ)) (ls : List Line) (l : Line) → AreOut old now (map line_text ls) → FrontIsOut now new (line_text l) → FrontIsOut old new (joined (map line_text (ls ++ l ∷ [])))
+front_of_line_out old now new ls l out f =
+    subst (λ (ts : List (List ℕ)). FrontIsOut old new (joined ts)) (sym (map-append ls (l ∷ []))) (front_out old now new (map line_text ls) (line_text l) out f)
+
+-- ---- behind a first line
+pub more_out : (old now new : Option (List ℕ)) (l : List ℕ) (ls : List (List ℕ)) → now ≡ appended old l → AreOut now new ls → AreOut old new (l ∷ ls)
+more_out old now new l ls first out = out ∙ (ap (λ (o : Option (List ℕ)). appended o (joined ls)) first ∙ appended-append old l (joined ls))
+
+pub front_behind : (old now new : Option (List ℕ)) (xs ys : List ℕ) → now ≡ appended old xs → FrontIsOut now new ys → FrontIsOut old new (xs ++ ys)
+front_behind old now new xs ys first f = record {
+  count = length xs + f.count;
+  within = let g = length-append xs ys in let w = f.within in omega (arith, g, w);
+  out =
+      f.out
+      ∙ (ap (λ (o : Option (List ℕ)). appended o (take f.count ys)) first
+      ∙ (appended-append old xs (take f.count ys) ∙ ap (appended old) (sym (take_past xs ys f.count))));
+}
+
+-- ---- the texts with the header
+pub texts_more : (core : Core) (ls : List Line) (l : Line) → texts_of core (ls ++ l ∷ []) ≡ texts_of core ls ++ line_text l ∷ []
 texts_more core ls l = map-append (Header 2 core.name core.agents ∷ ls) (l ∷ [])

@@ -13,7 +13,7 @@ use Rattle.slice_cert.specs.declared.line.Line.TheVariants.{Header, Refutation, 
 use Rattle.slice_cert.specs.CertLines.{line_text}
 use Rattle.slice_cert.specs.ShortForms.{needed, short_line}
 use Rattle.slice_cert.proofs.Used.{short_is}
-use Rattle.slice_counter.proofs.ShortLine.{decimal_short, signed_short, escape_short, quoted_short}
+use Rattle.slice_check.proofs.TextLength.{decimal_short, signed_short, escape_short, quoted_short}
 
 -- ---- multipliers
 items_short : (later : Bool) (ms : List ℤ) → length (items_text later (items_of (map signed ms))) ≤ 400 * length ms + 1
