@@ -1,4 +1,5 @@
 pub mod Counterexamples
+pub mod Covers
 pub mod Expansions
 pub mod FilesAndLines
 pub mod Headlines

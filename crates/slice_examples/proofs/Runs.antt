@@ -1,10 +1,12 @@
 -- Runs of one cut, where it is stuck and where nothing or all is cut off; points where stretches meet; and envy.
-use Rattle.std.proofs.Common.{◌≡◌, ℕ, List, [], ◌∷◌, pos, negsuc, false, refl, arith}
+use Rattle.std.proofs.Common.{◌≡◌, ◌+◌, ℕ, List, [], ◌∷◌, pos, negsuc, false, true, refl, arith}
 use Rattle.std.proofs.lemmas.Int.{ints}
-use Rattle.std.specs.Prelude.{None}
+use Rattle.std.specs.Prelude.{Bool, None, if◌then◌else◌, ◌&&◌}
 use Rattle.slice_num.specs.Gcd.{gcd_of, gcd_steps}
 use Rattle.slice_num.specs.Rational.{Rational, ratio, whole, plus, times, same_parts}
 use Rattle.slice_num.specs.Arithmetic.{inverse}
+use Rattle.slice_num.specs.Fitting.{below}
+use Rattle.slice_num.proofs.FieldLaws.{below-is, below-not}
 use Rattle.slice_num.specs.Valuation.{Valuation, value}
 use Rattle.slice_num.specs.Pieces.{joined, piece_at}
 use Rattle.slice_num.specs.declared.interval.Interval.{Interval}
@@ -14,7 +16,7 @@ use Rattle.slice_num.specs.declared.choice.Choice.{Choice}
 use Rattle.slice_num.specs.declared.choice.Choice.TheVariants as choice
 use Rattle.slice_num.specs.declared.cut_answer.CutAnswer.{CutAnswer}
 use Rattle.slice_core.specs.Tree.{Tree, Cut, End}
-use Rattle.slice_core.specs.Division.{times_in, IsEnvious}
+use Rattle.slice_core.specs.Division.{times_in, MakeUpCake, IsEnvious}
 use Rattle.slice_core.specs.Measures.{worth_of}
 use Rattle.slice_core.specs.Run.{Piece, Ending, Done, Stuck, Few, Bad, Many, run, start}
 use Rattle.slice_core.specs.declared.node.Lin.{Lin}
@@ -141,3 +143,15 @@ first_envies_second = omega (arith, ints)
 second_envies_none : IsEnvious (worth_of tastes) parted 2 1 → ⊥
 unfolding tastes parted value plus times inverse ratio gcd_of gcd_steps
 second_envies_none h = omega (arith, ints, h)
+
+-- each point of the cake lies in one of the two shares: before 4/9 in the first, from there on in the second
+the_shares_make_up_the_cake : MakeUpCake 2 parted []
+unfolding parted
+the_shares_make_up_the_cake t low high =
+    once (below t (at 0)) (below t (ratio (pos 4) 9)) (below t (at 2)) (below-not t (at 0) low) (below-is t (at 2) high)
+  where
+    once : (a b c : Bool) → a ≡ false → c ≡ true → (if (if a then false else true) && b then 1 else 0) + ((if (if b then false else true) && c then 1 else 0) + 0) ≡ 1
+    once true b c e f = absurd cc
+    once false b false e f = absurd cc
+    once false true true e f = refl
+    once false false true e f = refl

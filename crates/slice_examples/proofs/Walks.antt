@@ -1,5 +1,5 @@
 -- Walks computed on cut and choose, and on a core one of whose numbers doesn't fit.
-use Rattle.std.proofs.Common.{◌≡◌, ℕ, List, [], ◌∷◌, ℤ, pos, false, refl}
+use Rattle.std.proofs.Common.{◌≡◌, ◌<◌, ℕ, List, [], ◌∷◌, ℤ, pos, false, refl, arith}
 use Rattle.std.specs.Prelude.{codes, map, None, Some}
 use Rattle.slice_num.specs.Gcd.{gcd_of, gcd_steps}
 use Rattle.slice_num.specs.Rational.{Rational, ratio, whole, plus, times, negated}
@@ -11,6 +11,8 @@ use Rattle.slice_num.specs.declared.choice.Side.{Side}
 use Rattle.slice_num.specs.declared.choice.Side.TheVariants as side
 use Rattle.slice_num.specs.declared.cut_answer.CutAnswer.{CutAnswer}
 use Rattle.slice_core.specs.Tree.{Core, Cut, Ask, Set, Test, Give, End}
+use Rattle.slice_core.specs.WellFormed.{IsWellFormed, IsSumOver}
+use Rattle.slice_core.specs.Agents.{IsAgent}
 use Rattle.slice_core.specs.declared.query.Query.{Query}
 use Rattle.slice_core.specs.declared.node.Lin.{Lin}
 use Rattle.slice_core.specs.declared.node.Source.{Source}
@@ -30,6 +32,29 @@ cut_and_choose = record {
   tree = Cut 1 0 (single (Const (ratio (pos 1) 2))) 1 2 (Ask 2 1 0 (Ask 2 2 1 (Test (single (Reg 0)) (single (Reg 1)) false
       (Give 1 2 (Give 2 1 End)) (Give 2 2 (Give 1 1 End)))));
 }
+
+it_is_well_formed : IsWellFormed cut_and_choose
+unfolding cut_and_choose
+it_is_well_formed = record {
+  named = refl;
+  some_agent = omega arith;
+  few_agents = omega arith;
+  agents_there = (first, (second, (second, ((second, (first, record {})), (second, (first, record {}))))));
+  numbered = (omega arith, (refl, (record {}, record {})), refl, refl, (omega arith, refl, (omega arith, refl, (over 0 (omega arith), over 1 (omega arith), (omega arith, (omega arith, record {})), (omega arith, (omega arith, record {}))))));
+  single_use = (refl, (refl, (refl, ((refl, (refl, record {})), (refl, (refl, record {}))))));
+  few_nodes = omega arith;
+  few_deep = omega arith;
+  few_cuts = omega arith;
+}
+  where
+    first : IsAgent 2 1
+    first = (omega arith, omega arith)
+
+    second : IsAgent 2 2
+    second = (omega arith, omega arith)
+
+    over : (n : ℕ) → n < 2 → IsSumOver 2 (single (Reg n)).terms
+    over n l = (refl, (l, record {}))
 
 -- agent 1 likes the first and the last of three units, agent 2 likes all alike
 tastes : List Valuation
