@@ -1,16 +1,16 @@
 -- A count over parts is the number of goals.
-use Rattle.std.proofs.Common.{◌≡◌, ◌∙◌, ℕ, zero, suc, ◌+◌, ◌-◌, ◌<◌, ◌≤◌, ◌==◌, arith, refl, sym, ap, subst, Bool, true, false, List, [], ◌∷◌, ◌++◌, length, map, drop, append_assoc, append-nil, length-append}
-use Rattle.std.specs.Prelude.{⊤, if◌then◌else◌, Option, Some, None, slice_set, slice_index_or}
+use Rattle.std.proofs.Common.{◌≡◌, ◌∙◌, ℕ, zero, suc, ◌+◌, ◌-◌, ◌==◌, arith, refl, sym, ap, subst, Bool, true, false, List, [], ◌∷◌, ◌++◌, length, map, drop, append-nil, length-append}
+use Rattle.std.specs.Prelude.{⊤, if◌then◌else◌, Option, Some, None}
 use Rattle.std.proofs.lemmas.List.{length-map}
 use Rattle.slice_num.specs.declared.choice.Choice.{Choice}
-use Rattle.slice_num.specs.declared.choice.Choice.TheVariants.{Low, High, Go, Yes, No}
+use Rattle.slice_num.specs.declared.choice.Choice.TheVariants.{Low, High, Yes, No}
 use Rattle.slice_num.specs.Pieces.{piece_at, emptied, cut_pieces, join_pieces, each_part, passed}
 use Rattle.slice_core.specs.Tree.{Tree, Ask, Set, Cut, Join, Test, Give, End}
 use Rattle.slice_core.specs.declared.node.Lin.{Lin}
 use Rattle.slice_atoms.specs.Addresses.{Address, left_of, right_of}
 use Rattle.slice_atoms.specs.Forms.{Form, piece_form, sub_form}
 use Rattle.slice_paths.specs.Ahead.{pairs_after, pairs_beyond, pairs_left, pairs_from}
-use Rattle.slice_paths.specs.Counting.{part_count, used_counts, cut_counts, join_counts, over_parts, goals_on, goals_in_parts, one_less, once_passed, by_part, left_at_cut, left_at_end, goals_left}
+use Rattle.slice_paths.specs.Counting.{part_count, used_counts, cut_counts, join_counts, over_parts, goals_on, goals_in_parts, one_less, once_passed, by_part, left_at_cut, goals_left}
 use Rattle.slice_paths.specs.Goals.{Aim, aims, pairs, envy_form}
 use Rattle.slice_paths.specs.Places.{Way, Place, places, sum_form, yes_kind, no_kind, ask_way, cut_way, test_way, join_way, give_way}
 use Rattle.slice_paths.specs.Retraced.{part_in, one_more}

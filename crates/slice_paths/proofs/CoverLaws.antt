@@ -1,12 +1,12 @@
 -- The rows behind the first passed choices of a trace.
-use Rattle.std.proofs.Common.{◌≡◌, ◌∙◌, ℕ, refl, sym, ap, subst, List, [], ◌++◌, append-nil}
-use Rattle.std.specs.Prelude.{Option, Some, None}
+use Rattle.std.proofs.Common.{◌≡◌, ◌∙◌, ℕ, sym, ap, List, [], ◌++◌, append-nil}
+use Rattle.std.specs.Prelude.{Some, None}
 use Rattle.slice_num.specs.declared.choice.Choice.{Choice}
 use Rattle.slice_core.specs.Tree.{Core, Tree}
 use Rattle.slice_linear.specs.Rows.{LinearRow}
 use Rattle.slice_paths.specs.Ahead.{ahead_of}
 use Rattle.slice_paths.specs.Fronts.{way_behind, rows_on, rows_where, cover_rows, events_behind, events_after}
-use Rattle.slice_paths.specs.Places.{Way, first_way}
+use Rattle.slice_paths.specs.Places.{first_way}
 use Rattle.slice_paths.specs.Retraced.{StandsAt, IsRetraced, IsTooShort}
 use Rattle.slice_paths.specs.Spots.{Known, regs_of, way_of}
 use Rattle.slice_paths.specs.declared.frames.Frame.{Frame}

@@ -1,6 +1,6 @@
 -- The events depend on the coefficients of the atoms alone, and not on which cuts were passed: by induction on the tree.
 use Rattle.std.proofs.Common.{◌≡◌, ◌∙◌, ℕ, zero, suc, ◌-◌, refl, sym, ap, Bool, true, false, List, [], ◌∷◌, ◌++◌, length, pos}
-use Rattle.std.specs.Prelude.{⊤, map, ◌&&◌, slice_index_or, Option, Some, None}
+use Rattle.std.specs.Prelude.{map, ◌&&◌, slice_index_or, Option, Some, None}
 use Rattle.std.proofs.lemmas.List.{map-append}
 use Rattle.slice_num.specs.Rational.{Rational, plus, times, negated, minus, whole}
 use Rattle.slice_num.specs.declared.choice.Choice.TheVariants as choice

@@ -1,17 +1,18 @@
 -- What a stream's calls leave of the goals.
-use Rattle.std.proofs.Common.{◌≡◌, ◌∙◌, ℕ, zero, suc, ◌+◌, ◌-◌, ◌≤◌, arith, refl, sym, ap, subst, Bool, true, false, List, [], ◌∷◌, length, drop}
+use Rattle.std.proofs.Common.{◌≡◌, ◌∙◌, ℕ, zero, suc, ◌+◌, ◌≤◌, arith, refl, sym, ap, subst, Bool, true, false, List, [], ◌∷◌, length, take, drop}
 use Rattle.std.specs.Prelude.{nat_lt, if◌then◌else◌, None}
 use Rattle.std.proofs.lemmas.List.{drop-drop, length-drop}
+use Rattle.std.proofs.lemmas.List.Elements.{All-head, All-tail}
 use Rattle.slice_num.specs.declared.choice.Choice.{Choice}
 use Rattle.slice_core.specs.Cores.{core_of}
+use Rattle.slice_core.specs.Tree.{Core as CoreOf}
 use Rattle.slice_core.specs.declared.core_tree.Core.{Core}
-use Rattle.slice_paths.specs.Counting.{goals_under, PassesOver}
+use Rattle.slice_paths.specs.Counting.{goals_under}
 use Rattle.slice_paths.specs.Events.{Event, Meets, Breaks, Gives, NoMore, Overflows, OverLimit, next_goal, goal_at, goal_limit, Tell}
-use Rattle.slice_paths.specs.Fronts.{front_of, way_behind, events_after, ShareFirst}
+use Rattle.slice_paths.specs.Fronts.{front_of, way_behind, events_after, Shares, ShareFirst}
 use Rattle.slice_paths.specs.Goals.{Goal, goals}
 use Rattle.slice_paths.specs.Places.{first_way}
 use Rattle.slice_paths.specs.Streams.{Stream, TellsRest, IsGivenLast}
-use Rattle.slice_paths.specs.declared.goal.GoalKind.{GoalKind}
 use Rattle.slice_paths.proofs.SkipLaws.{skips_pass_over}
 
 -- ---- one goal less
@@ -86,6 +87,19 @@ rest_after_goal s t g h e n k l d =
         kind = d;
       },
     )
+
+-- ---- how many share the first passed choices is one number
+pub one_share : (core : CoreOf) (passed : ℕ) (trace : List Choice) (gs : List Goal) (n m : ℕ) → ShareFirst core passed trace gs n → ShareFirst core passed trace gs m → n ≡ m
+one_share core passed trace gs zero zero h k = refl
+one_share core passed trace [] zero (suc m) h k = absurd (omega (arith, k.0))
+one_share core passed trace [] (suc n) m h k = absurd (omega (arith, h.0))
+one_share core passed trace (g ∷ gs) zero (suc m) h k =
+    absurd (All-head (λ (x : Goal). Shares core passed trace x → ⊥) g gs h.2 (All-head (Shares core passed trace) g (take m gs) k.1))
+one_share core passed trace (g ∷ gs) (suc n) zero h k =
+    absurd (All-head (λ (x : Goal). Shares core passed trace x → ⊥) g gs k.2 (All-head (Shares core passed trace) g (take n gs) h.1))
+one_share core passed trace (g ∷ gs) (suc n) (suc m) h k =
+    let P = Shares core passed trace in
+    ap suc (one_share core passed trace gs n m (omega (arith, h.0), All-tail P g (take n gs) h.1, h.2) (omega (arith, k.0), All-tail P g (take m gs) k.1, k.2))
 
 -- ---- those that share the first passed choices of the goal given last
 pub record PassesLast (s : Stream) (passed : ℕ) : Type 0 where

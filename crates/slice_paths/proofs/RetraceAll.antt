@@ -1,15 +1,14 @@
 -- Strides, one after another.
-use Rattle.std.proofs.Common.{◌≡◌, ◌∙◌, ℕ, zero, suc, ◌+◌, refl, sym, ap, subst, List, [], ◌∷◌, ◌++◌, drop, append_assoc}
+use Rattle.std.proofs.Common.{◌≡◌, ◌∙◌, ℕ, suc, sym, ap, List, [], ◌++◌, drop, append_assoc}
 use Rattle.std.specs.Prelude.{Option, Some, None}
 use Rattle.slice_num.specs.declared.choice.Choice.{Choice}
 use Rattle.slice_core.specs.Nodes.{tree_of}
 use Rattle.slice_core.specs.Tree.{Tree}
-use Rattle.slice_atoms.specs.Forms.{Form}
 use Rattle.slice_paths.specs.Ahead.{ahead_of}
 use Rattle.slice_paths.specs.Events.{Event}
 use Rattle.slice_paths.specs.Fronts.{way_behind, events_behind}
-use Rattle.slice_paths.specs.Places.{Condition, PassedCut, Way}
-use Rattle.slice_paths.specs.Retraced.{way_with, still, StandsAt, IsStride, IsNoStride, Retraced, IsRetraced, IsTooShort, Retraces}
+use Rattle.slice_paths.specs.Places.{Way}
+use Rattle.slice_paths.specs.Retraced.{way_with, still, IsStride, IsNoStride, IsRetraced, IsTooShort, Retraces}
 use Rattle.slice_paths.specs.Spots.{Known}
 use Rattle.slice_paths.specs.Walking.{Ready}
 use Rattle.slice_paths.specs.declared.frames.Frame.{Frame}

@@ -1,6 +1,6 @@
 -- A cut that is answered once more stands at the way behind it.
-use Rattle.std.proofs.Common.{◌≡◌, ◌∙◌, ℕ, zero, suc, ◌+◌, ◌<◌, ◌≤◌, arith, refl, sym, ap, subst, true, List, [], ◌∷◌, ◌++◌, length, take, drop, append_assoc, get_or}
-use Rattle.std.specs.Prelude.{map, Option, Some, None}
+use Rattle.std.proofs.Common.{◌≡◌, ◌∙◌, ℕ, zero, suc, ◌+◌, ◌<◌, ◌≤◌, arith, refl, sym, ap, true, List, [], ◌∷◌, ◌++◌, length, take, drop, append_assoc}
+use Rattle.std.specs.Prelude.{Option, Some, None}
 use Rattle.std.proofs.lemmas.List.{append-nil, length-map}
 use Rattle.slice_num.specs.declared.choice.Choice.{Choice}
 use Rattle.slice_num.specs.declared.choice.Choice.TheVariants.{Low, High, Go, Yes, No}
@@ -9,7 +9,7 @@ use Rattle.slice_core.specs.Tree.{Tree, Cut}
 use Rattle.slice_core.specs.declared.node.Lin.{Lin}
 use Rattle.slice_linear.specs.declared.forms.Term.{Term}
 use Rattle.slice_linear.specs.declared.row.RowKind.TheVariants.{Zero}
-use Rattle.slice_atoms.specs.Addresses.{Address, Cake, halved, left_of, right_of}
+use Rattle.slice_atoms.specs.Addresses.{Address, halved, left_of}
 use Rattle.slice_atoms.specs.Forms.{Form, piece_form, sub_form}
 use Rattle.slice_atoms.specs.Numbers.{name_of, part_of}
 use Rattle.slice_paths.specs.Ahead.{ahead_of, left_at, parts_from}
@@ -17,7 +17,7 @@ use Rattle.slice_paths.specs.Events.{Event, events, where_fit, cut_fits}
 use Rattle.slice_paths.specs.Fronts.{answered_in, way_behind, events_behind}
 use Rattle.slice_paths.specs.Places.{Condition, PassedCut, Way, sum_form, cut_way}
 use Rattle.slice_paths.specs.Retraced.{part_in, one_more, way_with, StandsAt, Strode}
-use Rattle.slice_paths.specs.Same.{SameAt, SameForms, SameConditions}
+use Rattle.slice_paths.specs.Same.{SameAt}
 use Rattle.slice_paths.specs.Spots.{Known, form_of, regs_of, way_of}
 use Rattle.slice_paths.specs.Steps.{IsKnown, CutTo, parts_at, answer_way}
 use Rattle.slice_paths.specs.Sums.{SumMeans}

@@ -1,33 +1,28 @@
 -- A spot that is walked to once more stands at the way behind the choices.
-use Rattle.std.proofs.Common.{◌≡◌, ◌∙◌, ℕ, zero, suc, ◌+◌, ◌<◌, ◌≤◌, arith, refl, sym, ap, subst, Bool, true, false, List, [], ◌∷◌, ◌++◌, length, take, drop, append_assoc}
-use Rattle.std.specs.Prelude.{map, Option, Some, None, ⊤}
-use Rattle.std.proofs.lemmas.List.{append-nil, map-append, length-map}
+use Rattle.std.proofs.Common.{◌≡◌, ◌∙◌, ℕ, suc, ◌≤◌, arith, refl, sym, ap, subst, Bool, true, false, List, [], ◌∷◌, ◌++◌, length, drop}
+use Rattle.std.specs.Prelude.{Some, None}
+use Rattle.std.proofs.lemmas.List.{append-nil}
 use Rattle.slice_num.specs.declared.choice.Choice.{Choice}
 use Rattle.slice_num.specs.declared.choice.Choice.TheVariants.{Low, High, Go, Yes, No}
-use Rattle.slice_num.specs.Pieces.{piece_at, each_part}
-use Rattle.slice_core.specs.Nodes.{tree_of}
-use Rattle.slice_core.specs.Tree.{Tree, Ask, Set, Cut, Join, Test, Give}
+use Rattle.slice_num.specs.Pieces.{piece_at}
+use Rattle.slice_core.specs.Tree.{Tree, Ask, Set, Join, Test, Give}
 use Rattle.slice_core.specs.declared.node.Lin.{Lin}
-use Rattle.slice_core.specs.declared.node.Node.{Node}
 use Rattle.slice_linear.specs.declared.forms.Term.{Term}
 use Rattle.slice_linear.specs.declared.row.RowKind.{RowKind}
-use Rattle.slice_linear.specs.declared.row.RowKind.TheVariants.{Zero}
-use Rattle.slice_atoms.specs.Addresses.{Address, Cake, halved, left_of, right_of}
+use Rattle.slice_atoms.specs.Addresses.{Cake}
 use Rattle.slice_atoms.specs.Forms.{Form, piece_form, sub_form}
 use Rattle.slice_atoms.specs.FormFits.{sub_fits}
-use Rattle.slice_atoms.specs.Numbers.{cake_of, name_of, part_of}
-use Rattle.slice_paths.specs.Ahead.{ahead_of, left_at, parts_from, no_from}
-use Rattle.slice_paths.specs.Events.{Event, events, where_fit, cut_fits}
-use Rattle.slice_paths.specs.Fronts.{answered_in, taken_arm, way_behind, events_behind}
-use Rattle.slice_paths.specs.Places.{Condition, PassedCut, Way, sum_form, yes_kind, no_kind, ask_way, cut_way, test_way, join_way, give_way}
-use Rattle.slice_paths.specs.Retraced.{part_in, one_more, arm_in, way_with, StandsAt, still, Strode, Retraced}
+use Rattle.slice_paths.specs.Ahead.{ahead_of, left_at, no_from}
+use Rattle.slice_paths.specs.Events.{Event, events, where_fit}
+use Rattle.slice_paths.specs.Fronts.{taken_arm, way_behind, events_behind}
+use Rattle.slice_paths.specs.Places.{Condition, PassedCut, Way, sum_form, yes_kind, no_kind, ask_way, test_way, join_way, give_way}
+use Rattle.slice_paths.specs.Retraced.{arm_in, way_with, StandsAt, Strode}
 use Rattle.slice_paths.specs.Same.{SameAt, SameForms, SameConditions}
 use Rattle.slice_paths.specs.Spots.{Known, form_of, regs_of, way_of}
-use Rattle.slice_paths.specs.Steps.{IsKnown, AskedTo, SetTo, JoinedTo, GivenTo, PassedTo, CutTo, parts_at, answer_way}
+use Rattle.slice_paths.specs.Steps.{IsKnown, AskedTo, SetTo, JoinedTo, GivenTo, PassedTo}
 use Rattle.slice_paths.specs.Sums.{SumMeans}
 use Rattle.slice_paths.specs.declared.frames.Frame.{Frame}
-use Rattle.slice_paths.specs.declared.frames.Rest.TheVariants as rest
-use Rattle.slice_paths.proofs.Depends.{depends, same_self, same_sub, same_halved, forms_put, conditions_put, forms_halved, conditions_halved, sum_same, sub_fits_same, each_part_same}
+use Rattle.slice_paths.proofs.Depends.{depends, same_self, same_sub, forms_put, conditions_put, sum_same, sub_fits_same}
 use Rattle.slice_paths.proofs.StreamLaws.{ahead_put}
 
 -- ---- the same in the atoms

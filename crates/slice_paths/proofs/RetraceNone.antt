@@ -1,6 +1,6 @@
 -- Choices that lead nowhere.
-use Rattle.std.proofs.Common.{◌≡◌, ◌∙◌, ℕ, zero, suc, refl, sym, ap, subst, Bool, List, [], ◌∷◌, length}
-use Rattle.std.specs.Prelude.{Option, Some, None}
+use Rattle.std.proofs.Common.{◌≡◌, ◌∙◌, ℕ, refl, ap, Bool, List, [], length}
+use Rattle.std.specs.Prelude.{None}
 use Rattle.std.proofs.lemmas.List.{length-map}
 use Rattle.slice_num.specs.declared.choice.Choice.{Choice}
 use Rattle.slice_num.specs.Pieces.{piece_at}
@@ -10,7 +10,6 @@ use Rattle.slice_atoms.specs.Numbers.{name_of, addresses_of}
 use Rattle.slice_atoms.specs.Addresses.{Address}
 use Rattle.slice_paths.specs.Retraced.{part_in, arm_in, IsNoStride}
 use Rattle.slice_paths.specs.Spots.{Known, way_of}
-use Rattle.slice_paths.specs.Steps.{IsNotGiven}
 use Rattle.slice_paths.specs.Walking.{Ready}
 use Rattle.slice_paths.proofs.Counts.{piece_map}
 use Rattle.slice_paths.proofs.GoLaws.{cuts}

@@ -1,23 +1,22 @@
 -- Behind a goal come those that share its first passed choices, and then the others: by induction on the tree.
-use Rattle.std.proofs.Common.{◌≡◌, ◌∙◌, ℕ, zero, suc, ◌+◌, ◌-◌, ◌≤◌, arith, refl, sym, ap, subst, Bool, List, [], ◌∷◌, ◌++◌, length, map, take, drop, append_assoc, append-nil, length-append}
+use Rattle.std.proofs.Common.{◌≡◌, ◌∙◌, ℕ, zero, suc, ◌+◌, ◌-◌, arith, refl, sym, ap, subst, Bool, List, [], ◌∷◌, ◌++◌, length, map, take, drop, append_assoc, append-nil, length-append}
 use Rattle.std.specs.Prelude.{⊤, Option, Some, None}
 use Rattle.std.specs.List.{All}
 use Rattle.std.proofs.lemmas.List.{length-map}
 use Rattle.std.proofs.lemmas.List.Elements.{All-nil, All-cons}
 use Rattle.slice_num.specs.declared.choice.Choice.{Choice}
 use Rattle.slice_num.specs.declared.choice.Choice.TheVariants.{Low, High, Go, Yes, No}
-use Rattle.slice_num.specs.Pieces.{piece_at, emptied, each_part, passed}
+use Rattle.slice_num.specs.Pieces.{piece_at, each_part, passed}
 use Rattle.slice_core.specs.Tree.{Tree, Core, Ask, Set, Cut, Join, Test, Give, End}
 use Rattle.slice_core.specs.declared.node.Lin.{Lin}
 use Rattle.slice_atoms.specs.Addresses.{Address}
 use Rattle.slice_atoms.specs.FormFits.{sub_fits}
 use Rattle.slice_atoms.specs.Forms.{Form, piece_form, sub_form}
-use Rattle.slice_paths.specs.Counting.{part_count, used_counts, cut_counts, join_counts, over_parts, goals_on, goals_in_parts, one_less, once_passed, by_part, left_at_cut, left_at_end, goals_left, goals_under, PassesOver, SkipsPassOver}
+use Rattle.slice_paths.specs.Counting.{part_count, cut_counts, over_parts, goals_on, goals_in_parts, by_part, goals_left, goals_under, PassesOver, SkipsPassOver}
 use Rattle.slice_paths.specs.Events.{Event, events, where_fit, cut_fits, Tell}
-use Rattle.slice_paths.specs.Fronts.{answered_in, with_first, front_at_cut, front_of, way_behind, events_behind, events_after, Shares, ShareFirst}
-use Rattle.slice_paths.specs.Goals.{Aim, aims, aims_of, pairs, envy_form, Goal, goal_of, numbered, goals}
+use Rattle.slice_paths.specs.Fronts.{answered_in, with_first, front_at_cut, front_of, way_behind, events_behind, events_after, Shares}
+use Rattle.slice_paths.specs.Goals.{Aim, aims, aims_of, pairs, envy_form, Goal, goal_of, numbered}
 use Rattle.slice_paths.specs.Places.{Way, Place, places, sum_form, yes_kind, no_kind, first_way, ask_way, cut_way, test_way, join_way, give_way}
-use Rattle.slice_paths.specs.Retraced.{part_in}
 use Rattle.slice_paths.specs.declared.goal.GoalKind.{GoalKind}
 use Rattle.slice_paths.specs.declared.goal.GoalKind.TheVariants as goal_kind
 use Rattle.slice_paths.proofs.CountLaws.{counts_of, counts_used, counts_joined, counts_behind, count_at, parts_number, aims_number, left_in_part, none_off, part_low, part_high, EachPair, each_pair}

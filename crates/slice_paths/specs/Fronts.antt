@@ -4,7 +4,7 @@ use Rattle.std.specs.Prelude.{◌≡◌, ◌≤◌, ℕ, zero, suc, Option, Some
 use Rattle.std.specs.List.{All}
 use Rattle.slice_num.specs.Pieces.{piece_at, each_part}
 use Rattle.slice_num.specs.declared.choice.Choice.{Choice}
-use Rattle.slice_num.specs.declared.choice.Choice.TheVariants.{Low, High, Go, Yes, No}
+use Rattle.slice_num.specs.declared.choice.Choice.TheVariants.{Go, Yes, No}
 use Rattle.slice_core.specs.Tree.{Tree, Core, Ask, Set, Cut, Join, Test, Give, End}
 use Rattle.slice_linear.specs.Rows.{LinearRow}
 use Rattle.slice_atoms.specs.Addresses.{Address}

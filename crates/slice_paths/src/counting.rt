@@ -232,6 +232,14 @@ fn later_no(
     count_on(alloc, agents, no, counts, given)
 }
 
+// The goals behind one of that kind, where there are so many agents.
+#[derive(Clone, Copy)]
+struct Behind {
+    alloc: Global,
+    agents: u32,
+    kind: GoalKind,
+}
+
 /// How many goals were given then, where so many were given, with the one of that kind to which these choices lead, and those
 /// behind it are passed over that have the same first so many passed choices. GoalLimit comes exactly where they are more than
 /// may be given.
@@ -246,185 +254,114 @@ pub(crate) fn count_from_root(
     requires few { given ≤ 1000000 }
     ensures { IsCounted (given + goals_under (core_of core.now) passed choices.now kind) result }
 {
-    let agents = core.agents();
-    count_left(
+    let behind = Behind {
         alloc,
-        agents,
-        passed,
-        core.root(),
-        &[1],
-        choices,
+        agents: core.agents(),
         kind,
-        given,
-    )
+    };
+    count_left(behind, passed, core.root(), &[1], choices, given)
 }
 
 /// How many goals there are with those that come behind the one of that kind to which the choices lead from a node, after so
 /// many, and have the same first so many passed choices. GoalLimit comes exactly where they are more than may be given.
 #[cycle(left_goals)]
-pub(crate) fn count_left(
-    alloc: Global,
-    agents: u32,
+fn count_left(
+    behind: Behind,
     passed: u32,
     node: &Node,
     counts: &[u32],
     choices: &[Choice],
-    kind: GoalKind,
     given: u64,
 ) -> Result<u64, SkipFault>
-    requires agents { agents ≤ 16 }
+    requires agents { behind.agents ≤ 16 }
     requires parts { all_parts counts.now + most_cuts (tree_of node.now) ≤ 65 }
     requires few { given ≤ 1000000 }
-    ensures { IsCounted (given + goals_left agents passed (tree_of node.now) counts.now choices.now kind) result }
+    ensures { IsCounted (given + goals_left behind.agents passed (tree_of node.now) counts.now choices.now behind.kind) result }
 {
     match node {
-        Node::Ask { next, .. } => {
-            count_left(
-                alloc,
-                agents,
-                passed,
-                next.get(),
-                counts,
-                choices,
-                kind,
-                given,
-            )
-        }
-        Node::Set { next, .. } => {
-            count_left(
-                alloc,
-                agents,
-                passed,
-                next.get(),
-                counts,
-                choices,
-                kind,
-                given,
-            )
-        }
+        Node::Ask { next, .. } => count_left(behind, passed, next.get(), counts, choices, given),
+        Node::Set { next, .. } => count_left(behind, passed, next.get(), counts, choices, given),
         Node::Cut { piece, next, .. } => {
-            left_of_cut(
-                alloc,
-                agents,
-                passed,
-                *piece,
-                next.get(),
-                counts,
-                choices,
-                kind,
-                given,
-            )
+            left_of_cut(behind, passed, *piece, next.get(), counts, choices, given)
         }
         Node::Join {
             first,
             second,
             next,
             ..
-        } => match after_join(alloc, counts, *first, *second) {
+        } => match after_join(behind.alloc, counts, *first, *second) {
             Err(Memory) => Err(SkipFault::Memory),
-            Ok(here) => count_left(
-                alloc,
-                agents,
-                passed,
-                next.get(),
-                here.as_slice(),
-                choices,
-                kind,
-                given,
-            ),
+            Ok(here) => count_left(behind, passed, next.get(), here.as_slice(), choices, given),
         },
         Node::Test { yes, no, .. } => {
-            left_of_test(
-                alloc,
-                agents,
-                passed,
-                yes.get(),
-                no.get(),
-                counts,
-                choices,
-                kind,
-                given,
-            )
+            left_of_test(behind, passed, yes.get(), no.get(), counts, choices, given)
         }
-        Node::Give { piece, next, .. } => match after_use(alloc, counts, *piece) {
+        Node::Give { piece, next, .. } => match after_use(behind.alloc, counts, *piece) {
             Err(Memory) => Err(SkipFault::Memory),
-            Ok(here) => count_left(
-                alloc,
-                agents,
-                passed,
-                next.get(),
-                here.as_slice(),
-                choices,
-                kind,
-                given,
-            ),
+            Ok(here) => count_left(behind, passed, next.get(), here.as_slice(), choices, given),
         },
-        Node::Done => left_of_end(agents, kind, given),
+        Node::Done => left_of_end(behind, given),
     }
 }
 
 // With those behind a goal at a cut, or behind an answer to it.
 #[cycle(left_goals)]
 fn left_of_cut(
-    alloc: Global,
-    agents: u32,
+    behind: Behind,
     passed: u32,
     piece: u32,
     next: &Node,
     counts: &[u32],
     choices: &[Choice],
-    kind: GoalKind,
     given: u64,
 ) -> Result<u64, SkipFault>
-    requires agents { agents ≤ 16 }
+    requires agents { behind.agents ≤ 16 }
     requires parts { all_parts counts.now + 1 + most_cuts (tree_of next.now) ≤ 65 }
     requires few { given ≤ 1000000 }
-    ensures { (a l r : ℕ) (amount : LinOf) → IsCounted (given + goals_left agents passed (CutTree a piece amount l r (tree_of next.now)) counts.now choices.now kind) result }
+    ensures { (a l r : ℕ) (amount : LinOf) → IsCounted (given + goals_left behind.agents passed (CutTree a piece amount l r (tree_of next.now)) counts.now choices.now behind.kind) result }
 {
     let parts = parts_of(counts, piece);
     let part = match part_taken(choices, parts) {
-        None => return left_of_stuck(alloc, agents, piece, next, counts, kind, given),
+        None => return left_of_stuck(behind, piece, next, counts, given),
         Some(part) => part,
     };
-    let here = match after_cut(alloc, counts, piece, part + 1, parts - part) {
+    let here = match after_cut(behind.alloc, counts, piece, part + 1, parts - part) {
         Err(Memory) => return Err(SkipFault::Memory),
         Ok(here) => here,
     };
     let left = one_passed(passed);
     let rest = choices_after(choices, part as usize + 1);
-    match count_left(
-        alloc,
-        agents,
-        left,
-        next,
-        here.as_slice(),
-        rest,
-        kind,
-        given,
-    ) {
+    match count_left(behind, left, next, here.as_slice(), rest, given) {
         Err(fault) => Err(fault),
-        Ok(given) => later_parts(alloc, agents, passed, piece, next, counts, part + 1, given),
+        Ok(given) => later_parts(
+            behind.alloc,
+            behind.agents,
+            passed,
+            piece,
+            next,
+            counts,
+            part + 1,
+            given,
+        ),
     }
 }
 
 // With those behind the arm of a test that is taken.
 #[cycle(left_goals)]
 fn left_of_test(
-    alloc: Global,
-    agents: u32,
+    behind: Behind,
     passed: u32,
     yes: &Node,
     no: &Node,
     counts: &[u32],
     choices: &[Choice],
-    kind: GoalKind,
     given: u64,
 ) -> Result<u64, SkipFault>
-    requires agents { agents ≤ 16 }
+    requires agents { behind.agents ≤ 16 }
     requires yes_parts { all_parts counts.now + most_cuts (tree_of yes.now) ≤ 65 }
     requires no_parts { all_parts counts.now + most_cuts (tree_of no.now) ≤ 65 }
     requires few { given ≤ 1000000 }
-    ensures { (left right : LinOf) (strict : Bool) → IsCounted (given + goals_left agents passed (TestTree left right strict (tree_of yes.now) (tree_of no.now)) counts.now choices.now kind) result }
+    ensures { (left right : LinOf) (strict : Bool) → IsCounted (given + goals_left behind.agents passed (TestTree left right strict (tree_of yes.now) (tree_of no.now)) counts.now choices.now behind.kind) result }
 {
     let taken = match arm_taken(choices) {
         None => return Ok(given),
@@ -433,11 +370,11 @@ fn left_of_test(
     let left = one_passed(passed);
     let rest = choices_after(choices, 1);
     if !taken {
-        return count_left(alloc, agents, left, no, counts, rest, kind, given);
+        return count_left(behind, left, no, counts, rest, given);
     }
-    match count_left(alloc, agents, left, yes, counts, rest, kind, given) {
+    match count_left(behind, left, yes, counts, rest, given) {
         Err(fault) => Err(fault),
-        Ok(given) => later_no(alloc, agents, passed, no, counts, given),
+        Ok(given) => later_no(behind.alloc, behind.agents, passed, no, counts, given),
     }
 }
 
@@ -450,39 +387,37 @@ fn one_passed(passed: u32) -> u32
 
 // With those behind Low or High of a cut.
 fn left_of_stuck(
-    alloc: Global,
-    agents: u32,
+    behind: Behind,
     piece: u32,
     next: &Node,
     counts: &[u32],
-    kind: GoalKind,
     given: u64,
 ) -> Result<u64, SkipFault>
-    requires agents { agents ≤ 16 }
+    requires agents { behind.agents ≤ 16 }
     requires parts { all_parts counts.now + 1 + most_cuts (tree_of next.now) ≤ 65 }
     requires few { given ≤ 1000000 }
-    ensures { IsCounted (given + left_at_cut kind (goals_in_parts agents (tree_of next.now) counts.now piece 0)) result }
+    ensures { IsCounted (given + left_at_cut behind.kind (goals_in_parts behind.agents (tree_of next.now) counts.now piece 0)) result }
 {
-    match kind {
+    match behind.kind {
         GoalKind::Low => match more(given, 1) {
             Err(fault) => Err(fault),
-            Ok(given) => count_parts(alloc, agents, piece, next, counts, 0, given),
+            Ok(given) => count_parts(behind.alloc, behind.agents, piece, next, counts, 0, given),
         },
-        GoalKind::High => count_parts(alloc, agents, piece, next, counts, 0, given),
+        GoalKind::High => count_parts(behind.alloc, behind.agents, piece, next, counts, 0, given),
         GoalKind::Envy { .. } => Ok(given),
     }
 }
 
 // With those behind a pair at an end.
-fn left_of_end(agents: u32, kind: GoalKind, given: u64) -> Result<u64, SkipFault>
-    requires agents { agents ≤ 16 }
+fn left_of_end(behind: Behind, given: u64) -> Result<u64, SkipFault>
+    requires agents { behind.agents ≤ 16 }
     requires few { given ≤ 1000000 }
-    ensures { IsCounted (given + left_at_end agents kind) result }
+    ensures { IsCounted (given + left_at_end behind.agents behind.kind) result }
 {
-    match kind {
+    match behind.kind {
         GoalKind::Low => Ok(given),
         GoalKind::High => Ok(given),
-        GoalKind::Envy { a, b } => count_behind(agents, a, b, given),
+        GoalKind::Envy { a, b } => count_behind(behind.agents, a, b, given),
     }
 }
 

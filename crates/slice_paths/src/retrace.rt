@@ -101,7 +101,12 @@ pub(crate) fn retrace<'a>(
     if passed == 0 {
         return Ok(Some(spot));
     }
-    match go_on(alloc, agents, node, spot, choices, behind) {
+    let by = Guide {
+        alloc,
+        agents,
+        choices,
+    };
+    match go_on(by, node, spot, behind) {
         Err(fault) => Err(fault),
         Ok(None) => Ok(None),
         Ok(Some(on)) => {
@@ -128,17 +133,23 @@ pub(crate) fn choices_after(choices: &[Choice], taken: usize) -> &[Choice]
     &choices[taken..]
 }
 
-// Does what a node says, as the choices tell.
-fn go_on<'a>(
+// What a walk goes by: memory, how many agents there are, and the choices that are left.
+#[derive(Clone, Copy)]
+struct Guide<'b> {
     alloc: Global,
     agents: u32,
+    choices: &'b [Choice],
+}
+
+// Does what a node says, as the choices tell.
+fn go_on<'a>(
+    by: Guide<'_>,
     node: &'a Node,
     spot: Spot,
-    choices: &[Choice],
     behind: &mut Vec<Frame<'a>>,
 ) -> Result<Option<Stride<'a>>, FormFault>
-    requires { Ready agents (tree_of node.now) spot }
-    ensures { IfOk result (λ o. Strides agents (tree_of node.now) spot choices.now behind.old.items behind.new.items o) }
+    requires { Ready by.agents (tree_of node.now) spot }
+    ensures { IfOk result (λ o. Strides by.entry.agents (tree_of node.now) spot by.entry.choices.now behind.old.items behind.new.items o) }
 {
     match node {
         Node::Ask {
@@ -146,25 +157,15 @@ fn go_on<'a>(
             piece,
             next,
             ..
-        } => stride_ask(alloc, *agent, *piece, next.get(), spot),
-        Node::Set { sum, next, .. } => stride_set(alloc, sum, next.get(), spot),
+        } => stride_ask(by.alloc, *agent, *piece, next.get(), spot),
+        Node::Set { sum, next, .. } => stride_set(by.alloc, sum, next.get(), spot),
         Node::Cut {
             agent,
             piece,
             amount,
             next,
             ..
-        } => stride_cut(
-            alloc,
-            agents,
-            *agent,
-            *piece,
-            amount,
-            next.get(),
-            spot,
-            choices,
-            behind,
-        ),
+        } => stride_cut(by, *agent, *piece, amount, next.get(), spot, behind),
         Node::Join {
             first,
             second,
@@ -177,17 +178,7 @@ fn go_on<'a>(
             strict,
             yes,
             no,
-        } => stride_test(
-            alloc,
-            left,
-            right,
-            *strict,
-            yes.get(),
-            no.get(),
-            spot,
-            choices,
-            behind,
-        ),
+        } => stride_test(by, left, right, *strict, yes.get(), no.get(), spot, behind),
         Node::Give { piece, agent, next } => stride_give(*piece, *agent, next.get(), spot),
         Node::Done => Ok(None),
     }
@@ -320,24 +311,22 @@ fn stride_give<'a>(
 
 // A cut is answered in the part that the choices tell.
 fn stride_cut<'a>(
-    alloc: Global,
-    agents: u32,
+    by: Guide<'_>,
     agent: u32,
     piece: u32,
     amount: &Lin,
     next: &'a Node,
     spot: Spot,
-    choices: &[Choice],
     behind: &mut Vec<Frame<'a>>,
 ) -> Result<Option<Stride<'a>>, FormFault>
-    requires ready { (l : ℕ) × (r : ℕ) × Ready agents (CutTree agent piece amount.now l r (tree_of next.now)) spot }
-    ensures { IfOk result (λ o. (l r : ℕ) → Strides agents (CutTree agent piece amount.now l r (tree_of next.now)) spot choices.now behind.old.items behind.new.items o) }
+    requires ready { (l : ℕ) × (r : ℕ) × Ready by.agents (CutTree agent piece amount.now l r (tree_of next.now)) spot }
+    ensures { IfOk result (λ o. (l r : ℕ) → Strides by.entry.agents (CutTree agent piece amount.now l r (tree_of next.now)) spot by.entry.choices.now behind.old.items behind.new.items o) }
 {
     let parts = spot.atoms.parts(piece);
-    match part_taken(choices, parts) {
+    match part_taken(by.choices, parts) {
         None => Ok(None),
         Some(part) => answer_cut(
-            alloc, agents, agent, piece, amount, next, spot, part, behind,
+            by.alloc, by.agents, agent, piece, amount, next, spot, part, behind,
         ),
     }
 }
@@ -422,26 +411,25 @@ fn sides<'a>(
 
 // The arm of a test is taken that the choices tell.
 fn stride_test<'a>(
-    alloc: Global,
+    by: Guide<'_>,
     left: &Lin,
     right: &Lin,
     strict: bool,
     yes: &'a Node,
     no: &'a Node,
     spot: Spot,
-    choices: &[Choice],
     behind: &mut Vec<Frame<'a>>,
 ) -> Result<Option<Stride<'a>>, FormFault>
     requires ready { (n : ℕ) × Ready n (TestTree left.now right.now strict (tree_of yes.now) (tree_of no.now)) spot }
-    ensures { IfOk result (λ o. (n : ℕ) → Ready n (TestTree left.now right.now strict (tree_of yes.now) (tree_of no.now)) spot → Strides n (TestTree left.now right.now strict (tree_of yes.now) (tree_of no.now)) spot choices.now behind.old.items behind.new.items o) }
+    ensures { IfOk result (λ o. (n : ℕ) → Ready n (TestTree left.now right.now strict (tree_of yes.now) (tree_of no.now)) spot → Strides n (TestTree left.now right.now strict (tree_of yes.now) (tree_of no.now)) spot by.entry.choices.now behind.old.items behind.new.items o) }
 {
-    match arm_taken(choices) {
+    match arm_taken(by.choices) {
         None => Ok(None),
         Some(taken) => {
             if taken {
-                stride_yes(alloc, left, right, strict, yes, no, spot, behind)
+                stride_yes(by.alloc, left, right, strict, yes, no, spot, behind)
             } else {
-                stride_no(alloc, left, right, strict, no, spot)
+                stride_no(by.alloc, left, right, strict, no, spot)
             }
         }
     }

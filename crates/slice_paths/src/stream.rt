@@ -181,23 +181,15 @@ impl<'a> GoalStream<'a> {
         ensures err { OnErr result (self.new ≡ self.old) }
         ensures core { self.new.core ≡ self.old.core }
     {
-        let given = match count_from_root(
-            self.alloc,
-            self.core,
-            passed,
-            self.last.as_slice(),
-            self.kind,
-            self.given,
-        ) {
+        let skipped = match self.sharing(passed) {
             Err(fault) => return Err(fault),
-            Ok(given) => given,
+            Ok(skipped) => skipped,
         };
         match frames_behind(self.alloc, self.core, self.last.as_slice(), passed) {
             Err(_) => Err(SkipFault::Memory),
             Ok(frames) => {
-                let skipped = given - self.given;
                 self.frames = frames;
-                self.given = given;
+                self.given += skipped;
                 Ok(skipped)
             }
         }

@@ -1,4 +1,4 @@
-use Rattle.std.proofs.Common.{◌≡◌, ◌∙◌, ◌+◌, ◌-◌, ◌≤◌, ◌<◌, ℕ, List, length, refl, sym, ap, arith}
+use Rattle.std.proofs.Common.{◌≡◌, ◌∙◌, ◌+◌, ◌-◌, ◌≤◌, ◌<◌, ℕ, refl, sym, ap, arith}
 use Rattle.slice_core.specs.Nodes.{tree_of}
 use Rattle.slice_core.specs.Sizes.{depth, most_cuts}
 use Rattle.slice_core.specs.Tree.{Tree}

@@ -1,4 +1,4 @@
-use Rattle.std.proofs.Common.{◌≡◌, ◌+◌, ◌≤◌, ◌∷◌, ℕ, List, length, sym, ap, arith}
+use Rattle.std.proofs.Common.{◌≡◌, ◌+◌, ◌≤◌, ℕ, List, length, sym, ap, arith}
 use Rattle.slice_paths.specs.Ahead.{pairs_from}
 use Rattle.slice_paths.proofs.CountSteps.{counted_as, counted_more}
 use Rattle.slice_paths.proofs.PairLaws.{pairs_row, pairs_other}

@@ -1,4 +1,4 @@
-use Rattle.std.proofs.Common.{◌≡◌, ◌∙◌, ◌+◌, ◌-◌, ◌≤◌, ◌<◌, ℕ, Bool, true, false, Some, List, drop, sym, ap, arith, rules}
+use Rattle.std.proofs.Common.{◌≡◌, ◌∙◌, ◌+◌, ◌-◌, ◌≤◌, ◌<◌, ℕ, true, false, Some, drop, sym, ap, arith, rules}
 use Rattle.std.proofs.lemmas.Grind.{common_steps}
 use Rattle.slice_core.specs.Nodes.{tree_of}
 use Rattle.slice_core.specs.Sizes.{depth, most_cuts}
@@ -34,8 +34,8 @@ count_left-returns-in-Cut t c =
     let a = c.args in
     let n = c.in-Cut in
     let is : tree_of a.node.now ≡ tree.Cut n.agent n.piece n.amount n.left n.right (tree_of c.get-in-Cut.result.now) = ap tree_of n.is ∙ tree_of-Cut n.agent n.piece n.amount n.left n.right n.next ∙ ap (tree.Cut n.agent n.piece n.amount n.left n.right) (sym (ap tree_of c.get-in-Cut.ensures)) in
-    counted_as (a.given + goals_left a.agents a.passed (tree.Cut n.agent n.piece n.amount n.left n.right (tree_of c.get-in-Cut.result.now)) a.counts.now a.choices.now a.kind) (a.given + goals_left a.agents a.passed (tree_of a.node.now) a.counts.now a.choices.now a.kind) c.left_of_cut.result
-    (ap (λ (x : Tree). a.given + goals_left a.agents a.passed x a.counts.now a.choices.now a.kind) (sym is)) (c.left_of_cut.ensures n.agent n.left n.right n.amount)
+    counted_as (a.given + goals_left a.behind.agents a.passed (tree.Cut n.agent n.piece n.amount n.left n.right (tree_of c.get-in-Cut.result.now)) a.counts.now a.choices.now a.behind.kind) (a.given + goals_left a.behind.agents a.passed (tree_of a.node.now) a.counts.now a.choices.now a.behind.kind) c.left_of_cut.result
+    (ap (λ (x : Tree). a.given + goals_left a.behind.agents a.passed x a.counts.now a.choices.now a.behind.kind) (sym is)) (c.left_of_cut.ensures n.agent n.left n.right n.amount)
 
 pub count_left-returns-in-Test : goal.count_left-returns-in-Test
 count_left-returns-in-Test t c =
@@ -44,8 +44,8 @@ count_left-returns-in-Test t c =
     let is : tree_of a.node.now ≡ tree.Test n.left n.right n.strict (tree_of c.get-in-Test.result.now) (tree_of c.get-in-Test-2.result.now) =
     ap tree_of n.is ∙ tree_of-Test n.left n.right n.strict n.yes n.no
     ∙ (λ i. tree.Test n.left n.right n.strict (sym (ap tree_of c.get-in-Test.ensures) i) (sym (ap tree_of c.get-in-Test-2.ensures) i)) in
-    counted_as (a.given + goals_left a.agents a.passed (tree.Test n.left n.right n.strict (tree_of c.get-in-Test.result.now) (tree_of c.get-in-Test-2.result.now)) a.counts.now a.choices.now a.kind) (a.given + goals_left a.agents a.passed (tree_of a.node.now) a.counts.now a.choices.now a.kind) c.left_of_test.result
-    (ap (λ (x : Tree). a.given + goals_left a.agents a.passed x a.counts.now a.choices.now a.kind) (sym is)) (c.left_of_test.ensures n.left n.right n.strict)
+    counted_as (a.given + goals_left a.behind.agents a.passed (tree.Test n.left n.right n.strict (tree_of c.get-in-Test.result.now) (tree_of c.get-in-Test-2.result.now)) a.counts.now a.choices.now a.behind.kind) (a.given + goals_left a.behind.agents a.passed (tree_of a.node.now) a.counts.now a.choices.now a.behind.kind) c.left_of_test.result
+    (ap (λ (x : Tree). a.given + goals_left a.behind.agents a.passed x a.counts.now a.choices.now a.behind.kind) (sym is)) (c.left_of_test.ensures n.left n.right n.strict)
 
 pub left_of_cut-choices_after-rest-requires : goal.left_of_cut-choices_after-rest-requires
 left_of_cut-choices_after-rest-requires t c = choices_long c.parts_of-parts.result c.args.choices.now c.in-Some.part (sym c.in-Some.ensures.part)
@@ -68,10 +68,10 @@ left_of_test-returns-then-not-taken t c = λ left right strict.
     let arm : arm_in a.choices.now ≡ Some false = sym c.in-Some.ensures ∙ ap Some taken in
     let y = tree_of a.yes.now in
     let z = tree_of a.no.now in
-    let e = left_at_no a.agents a.passed left right strict y z a.counts.now a.choices.now a.kind arm in
-    let same : goals_left a.agents c.one_passed-left.result z a.counts.now c.choices_after-rest.result.now a.kind ≡ goals_left a.agents (one_less a.passed) z a.counts.now (drop 1 a.choices.now) a.kind =
-    λ i. goals_left a.agents (c.one_passed-left.ensures i) z a.counts.now (c.choices_after-rest.ensures i) a.kind in
-    counted_as (a.given + goals_left a.agents c.one_passed-left.result z a.counts.now c.choices_after-rest.result.now a.kind) (a.given + goals_left a.agents a.passed (tree.Test left right strict y z) a.counts.now a.choices.now a.kind) c.count_left.result
+    let e = left_at_no a.behind.agents a.passed left right strict y z a.counts.now a.choices.now a.behind.kind arm in
+    let same : goals_left a.behind.agents c.one_passed-left.result z a.counts.now c.choices_after-rest.result.now a.behind.kind ≡ goals_left a.behind.agents (one_less a.passed) z a.counts.now (drop 1 a.choices.now) a.behind.kind =
+    λ i. goals_left a.behind.agents (c.one_passed-left.ensures i) z a.counts.now (c.choices_after-rest.ensures i) a.behind.kind in
+    counted_as (a.given + goals_left a.behind.agents c.one_passed-left.result z a.counts.now c.choices_after-rest.result.now a.behind.kind) (a.given + goals_left a.behind.agents a.passed (tree.Test left right strict y z) a.counts.now a.choices.now a.behind.kind) c.count_left.result
     (ap (λ (m : ℕ). a.given + m) (same ∙ sym e)) c.count_left.ensures)
 
 pub left_of_test-returns-in-Err : goal.left_of_test-returns-in-Err
@@ -81,12 +81,12 @@ left_of_test-returns-in-Err t c = λ left right strict.
     let arm : arm_in a.choices.now ≡ Some true = sym c.in-Some.ensures ∙ ap Some taken in
     let y = tree_of a.yes.now in
     let z = tree_of a.no.now in
-    let e = left_at_yes a.agents a.passed left right strict y z a.counts.now a.choices.now a.kind arm in
-    let same : goals_left a.agents c.one_passed-left.result y a.counts.now c.choices_after-rest.result.now a.kind ≡ goals_left a.agents (one_less a.passed) y a.counts.now (drop 1 a.choices.now) a.kind =
-    λ i. goals_left a.agents (c.one_passed-left.ensures i) y a.counts.now (c.choices_after-rest.ensures i) a.kind in
-    let whole = goals_left a.agents a.passed (tree.Test left right strict y z) a.counts.now a.choices.now a.kind in
-    let l : a.given + goals_left a.agents c.one_passed-left.result y a.counts.now c.choices_after-rest.result.now a.kind ≤ a.given + whole = omega (arith, same, e) in
-    counted_more (a.given + goals_left a.agents c.one_passed-left.result y a.counts.now c.choices_after-rest.result.now a.kind) (a.given + whole) c.in-Err.fault l c.in-Err.ensures)
+    let e = left_at_yes a.behind.agents a.passed left right strict y z a.counts.now a.choices.now a.behind.kind arm in
+    let same : goals_left a.behind.agents c.one_passed-left.result y a.counts.now c.choices_after-rest.result.now a.behind.kind ≡ goals_left a.behind.agents (one_less a.passed) y a.counts.now (drop 1 a.choices.now) a.behind.kind =
+    λ i. goals_left a.behind.agents (c.one_passed-left.ensures i) y a.counts.now (c.choices_after-rest.ensures i) a.behind.kind in
+    let whole = goals_left a.behind.agents a.passed (tree.Test left right strict y z) a.counts.now a.choices.now a.behind.kind in
+    let l : a.given + goals_left a.behind.agents c.one_passed-left.result y a.counts.now c.choices_after-rest.result.now a.behind.kind ≤ a.given + whole = omega (arith, same, e) in
+    counted_more (a.given + goals_left a.behind.agents c.one_passed-left.result y a.counts.now c.choices_after-rest.result.now a.behind.kind) (a.given + whole) c.in-Err.fault l c.in-Err.ensures)
 
 pub left_of_test-returns-in-Ok : goal.left_of_test-returns-in-Ok
 left_of_test-returns-in-Ok t c = λ left right strict.
@@ -95,10 +95,10 @@ left_of_test-returns-in-Ok t c = λ left right strict.
     let arm : arm_in a.choices.now ≡ Some true = sym c.in-Some.ensures ∙ ap Some taken in
     let y = tree_of a.yes.now in
     let z = tree_of a.no.now in
-    let e = left_at_yes a.agents a.passed left right strict y z a.counts.now a.choices.now a.kind arm in
-    let same : goals_left a.agents c.one_passed-left.result y a.counts.now c.choices_after-rest.result.now a.kind ≡ goals_left a.agents (one_less a.passed) y a.counts.now (drop 1 a.choices.now) a.kind =
-    λ i. goals_left a.agents (c.one_passed-left.ensures i) y a.counts.now (c.choices_after-rest.ensures i) a.kind in
-    let later = once_passed a.passed (goals_on a.agents z a.counts.now) in
-    let whole = goals_left a.agents a.passed (tree.Test left right strict y z) a.counts.now a.choices.now a.kind in
+    let e = left_at_yes a.behind.agents a.passed left right strict y z a.counts.now a.choices.now a.behind.kind arm in
+    let same : goals_left a.behind.agents c.one_passed-left.result y a.counts.now c.choices_after-rest.result.now a.behind.kind ≡ goals_left a.behind.agents (one_less a.passed) y a.counts.now (drop 1 a.choices.now) a.behind.kind =
+    λ i. goals_left a.behind.agents (c.one_passed-left.ensures i) y a.counts.now (c.choices_after-rest.ensures i) a.behind.kind in
+    let later = once_passed a.passed (goals_on a.behind.agents z a.counts.now) in
+    let whole = goals_left a.behind.agents a.passed (tree.Test left right strict y z) a.counts.now a.choices.now a.behind.kind in
     let l : c.in-Ok.given + later ≡ a.given + whole = omega (arith, same, e, c.in-Ok.ensures.0) in
     counted_as (c.in-Ok.given + later) (a.given + whole) c.later_no.result l c.later_no.ensures)

@@ -1,4 +1,4 @@
-use Rattle.std.proofs.Common.{◌≡◌, ◌∙◌, ◌≤◌, ℕ, List, ap, arith}
+use Rattle.std.proofs.Common.{◌≡◌, ◌∙◌, ℕ, List, ap, arith}
 use Rattle.slice_paths.specs.Counting.{part_count, used_counts}
 use Rattle.slice_paths.proofs.CountSteps.{few_joined}
 use Rattle.slice_paths.proofs.counting.after_join.Goals as goal

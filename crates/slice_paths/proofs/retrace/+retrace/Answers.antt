@@ -1,4 +1,4 @@
-use Rattle.std.proofs.Common.{◌≡◌, ◌-◌, ℕ, suc, Some, arith, refl}
+use Rattle.std.proofs.Common.{◌≡◌, ◌-◌, suc, arith}
 use Rattle.slice_core.specs.Nodes.{tree_of}
 use Rattle.slice_atoms.proofs.Items.{all_ok}
 use Rattle.slice_paths.proofs.RetraceAll.{none_passed, too_short, strode_on}

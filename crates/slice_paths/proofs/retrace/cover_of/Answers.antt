@@ -1,4 +1,4 @@
-use Rattle.std.proofs.Common.{◌≡◌, ◌∙◌, sym, ap, subst}
+use Rattle.std.proofs.Common.{sym}
 use Rattle.slice_core.specs.Cores.{core_of}
 use Rattle.slice_core.specs.Nodes.{tree_of}
 use Rattle.slice_paths.proofs.CoverLaws.{cover_none, cover_some}

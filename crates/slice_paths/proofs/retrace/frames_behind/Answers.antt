@@ -1,4 +1,3 @@
-use Rattle.std.proofs.Common.{sym}
 use Rattle.slice_core.specs.Cores.{core_of}
 use Rattle.slice_core.specs.Nodes.{tree_of}
 use Rattle.slice_paths.proofs.CoverLaws.{behind_none, behind_some}

@@ -1,4 +1,4 @@
-use Rattle.std.proofs.Common.{◌≡◌, ◌∙◌, List, ap, subst}
+use Rattle.std.proofs.Common.{◌∙◌, List, ap, subst}
 use Rattle.slice_linear.specs.declared.forms.Term.{Term}
 use Rattle.slice_paths.specs.Spots.{Known}
 use Rattle.slice_paths.specs.Sums.{SumMeans}

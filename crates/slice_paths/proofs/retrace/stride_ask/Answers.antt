@@ -1,6 +1,5 @@
-use Rattle.std.proofs.Common.{arith, List, sym, subst}
+use Rattle.std.proofs.Common.{arith, sym, subst}
 use Rattle.slice_core.specs.Nodes.{tree_of}
-use Rattle.slice_paths.specs.Spots.{Tally}
 use Rattle.slice_paths.specs.Walking.{CanGo}
 use Rattle.slice_paths.proofs.GoLaws.{asks}
 use Rattle.slice_paths.proofs.RetraceLaws.{ask_strode}

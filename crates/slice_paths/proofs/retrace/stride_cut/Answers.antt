@@ -1,11 +1,9 @@
-use Rattle.std.proofs.Common.{◌≡◌, ◌∙◌, ◌+◌, ◌≤◌, ℕ, Some, None, length, sym, ap, subst, arith}
-use Rattle.std.specs.declared.option.Option.{Option}
+use Rattle.std.proofs.Common.{◌≡◌, ◌∙◌, ◌+◌, ◌≤◌, ℕ, Some, None, length, sym, ap, arith}
 use Rattle.slice_num.specs.Pieces.{piece_at}
 use Rattle.slice_core.specs.Nodes.{tree_of}
 use Rattle.slice_core.specs.Sizes.{most_cuts}
-use Rattle.slice_core.specs.Tree.{Cut}
 use Rattle.slice_atoms.proofs.Items.{all_ok}
-use Rattle.slice_paths.specs.Retraced.{part_in, Strides}
+use Rattle.slice_paths.specs.Retraced.{part_in}
 use Rattle.slice_paths.specs.Spots.{Known}
 use Rattle.slice_paths.proofs.PartSteps.{few_parts}
 use Rattle.slice_paths.proofs.RetraceNone.{no_cut}
@@ -38,13 +36,13 @@ returns-in-None c = λ l r.
     let h = c.requires.ready in
     let e = ap (λ (k : Known). length (piece_at k.atoms.pieces a.piece)) c.spot.view_is in
     let parts : c.parts-parts.result ≡ length (piece_at a.spot.atoms.pieces a.piece) = c.parts-parts.ensures ∙ e in
-    let none : part_in (length (piece_at a.spot.atoms.pieces a.piece)) a.choices.now ≡ None = ap (λ (m : ℕ). part_in m a.choices.now) (sym parts) ∙ sym c.part_taken.ensures.part ∙ c.in-None.is in
-    no_cut a.agents a.agent a.piece l r h.0 h.1 a.amount.now (tree_of a.next.now) a.spot a.choices.now h.2 none)
+    let none : part_in (length (piece_at a.spot.atoms.pieces a.piece)) a.by.choices.now ≡ None = ap (λ (m : ℕ). part_in m a.by.choices.now) (sym parts) ∙ sym c.part_taken.ensures.part ∙ c.in-None.is in
+    no_cut a.by.agents a.agent a.piece l r h.0 h.1 a.amount.now (tree_of a.next.now) a.spot a.by.choices.now h.2 none)
 
 pub returns : goal.returns
 returns c =
     let a = c.args in
     let e = ap (λ (k : Known). length (piece_at k.atoms.pieces a.piece)) c.spot.view_is in
     let parts : c.parts-parts.result ≡ length (piece_at a.spot.atoms.pieces a.piece) = c.parts-parts.ensures ∙ e in
-    let named : part_in (length (piece_at a.spot.atoms.pieces a.piece)) a.choices.now ≡ Some c.in-Some.part = ap (λ (m : ℕ). part_in m a.choices.now) (sym parts) ∙ sym c.part_taken.ensures.part ∙ c.in-Some.is in
-    all_ok c.answer_cut.result _ _ (λ o f l r. f l r a.choices.now named) c.answer_cut.ensures
+    let named : part_in (length (piece_at a.spot.atoms.pieces a.piece)) a.by.choices.now ≡ Some c.in-Some.part = ap (λ (m : ℕ). part_in m a.by.choices.now) (sym parts) ∙ sym c.part_taken.ensures.part ∙ c.in-Some.is in
+    all_ok c.answer_cut.result _ _ (λ o f l r. f l r a.by.choices.now named) c.answer_cut.ensures

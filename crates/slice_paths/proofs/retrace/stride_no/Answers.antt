@@ -1,4 +1,4 @@
-use Rattle.std.proofs.Common.{arith, false, List, sym, ap, subst}
+use Rattle.std.proofs.Common.{arith, false, sym, subst}
 use Rattle.slice_core.specs.Nodes.{tree_of}
 use Rattle.slice_linear.specs.declared.row.RowKind.{RowKind}
 use Rattle.slice_num.specs.declared.choice.Choice.TheVariants as choice

@@ -1,4 +1,4 @@
-use Rattle.std.proofs.Common.{◌≡◌, ◌∙◌, ◌++◌, ◌∷◌, [], Bool, true, List, arith, refl, sym, ap, subst}
+use Rattle.std.proofs.Common.{◌≡◌, ◌∙◌, true, arith, sym, ap, subst}
 use Rattle.slice_core.specs.Nodes.{tree_of}
 use Rattle.slice_core.specs.Tree.{Tree}
 use Rattle.slice_linear.specs.declared.row.RowKind.{RowKind}

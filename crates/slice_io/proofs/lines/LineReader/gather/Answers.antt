@@ -1,4 +1,4 @@
-use Rattle.std.proofs.Common.{rules, ◌≡◌, ◌∙◌, ◌≤◌, true, false, arith, sym, ap, Bool, length, Some, subst, ℕ, List, length-append}
+use Rattle.std.proofs.Common.{rules, ◌≡◌, ◌∙◌, ◌≤◌, true, arith, sym, ap, Bool, length, Some, subst, ℕ, List, length-append}
 use Rattle.std.specs.Result.{IsErrAnd, IfErr}
 use Rattle.std.specs.declared.result.Result.{Result}
 use Rattle.std.specs.declared.result.Result.TheVariants.{Ok, Err}

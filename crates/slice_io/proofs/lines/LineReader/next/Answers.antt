@@ -1,4 +1,4 @@
-use Rattle.std.proofs.Common.{rules, true, false}
+use Rattle.std.proofs.Common.{rules}
 use Rattle.slice_io.proofs.lines.LineReader.next.Goals as goal
 
 pub returns-then-branch : goal.returns-then-branch

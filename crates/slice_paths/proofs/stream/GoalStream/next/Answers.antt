@@ -1,6 +1,5 @@
-use Rattle.std.proofs.Common.{◌≡◌, ◌∙◌, ◌+◌, [], sym, ap}
-use Rattle.slice_paths.specs.Ahead.{ahead_of}
-use Rattle.slice_paths.specs.Events.{next_goal, Gives}
+use Rattle.std.proofs.Common.{◌∙◌, ◌+◌, sym, ap}
+use Rattle.slice_paths.specs.Events.{next_goal}
 use Rattle.slice_paths.specs.Streams.{Stream}
 use Rattle.slice_paths.proofs.GivenLaws.{rest_after_goal}
 use Rattle.slice_paths.proofs.stream.GoalStream.next.Goals as goal

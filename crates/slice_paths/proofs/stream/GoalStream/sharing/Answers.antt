@@ -1,4 +1,4 @@
-use Rattle.std.proofs.Common.{◌≡◌, ◌∙◌, ◌+◌, ◌-◌, ◌<◌, ◌≤◌, ℕ, List, Err, drop, sym, ap, subst, arith}
+use Rattle.std.proofs.Common.{◌≡◌, ◌∙◌, ◌+◌, ◌-◌, ◌<◌, Err, drop, sym, ap, subst, arith}
 use Rattle.slice_core.specs.Cores.{core_of}
 use Rattle.slice_paths.specs.Counting.{goals_under, IsCounted}
 use Rattle.slice_paths.specs.Fronts.{ShareFirst}
