@@ -14,7 +14,8 @@ abbrev pub used : List ℤ → ℕ
 used [] = 0
 used (m ∷ ms) = counted_from m (used ms)
 
--- after how many passed choices all multipliers are 0, at least, where the rows of so many agents come before those
+-- the least number of passed choices with all multipliers behind theirs 0, where the row of the cake and one for each of so
+-- many agents come before those of the choices
 abbrev pub needed : ℕ → List ℤ → ℕ
 needed agents ms = used ms - (1 + agents)
 

@@ -19,7 +19,7 @@ use Rattle.slice_check.specs.declared.upgrade.UpgradeFault.TheVariants.{Cert}
 use Rattle.slice_check.specs.Certificate.{AtEnd, SaysLine, Stands}
 use Rattle.slice_check.specs.Faults.{IsAnswer}
 use Rattle.slice_check.specs.Steps.{ReachedEnd, Stops}
-use Rattle.slice_check.specs.Upgrades.{AreOut, AreShortened, AreWritten, BeginsSecond, IsLast, IsSecond, Shortens, UpgradeFails, UpgradeIs, texts_of}
+use Rattle.slice_check.specs.Upgrades.{AreOut, AreShortened, AreWritten, BeginsVersion2, IsLast, IsOfVersion2, Shortens, UpgradeFails, UpgradeIs, texts_of}
 use Rattle.slice_check.specs.Upgrading.{BeginHalts, CloseHalts, GoalsHalt, IsMoot, IsPut, IsReadTo, LinesHalt, SaysFirst}
 use Rattle.slice_check.proofs.LinesOut.{front_behind, front_out, more_out, nothing_out, one_more_out}
 use Rattle.slice_check.proofs.NoFurther.{last_at_none}
@@ -28,8 +28,8 @@ use Rattle.slice_check.proofs.Upgraded.{one_says}
 -- ---- the header
 
 -- a file that begins with a header of version 1 begins with none of version 2
-not_second : (core : Core) (file : List ℕ) → SaysLine file 0 (Header 1 core.name core.agents) → BeginsSecond file → ⊥
-not_second core file says b = let e : 1 ≡ 2 = subst IsSecond (one_says file 0 b.0 (Header 1 core.name core.agents) b.1 says) b.2 in omega (arith, e)
+not_second : (core : Core) (file : List ℕ) → SaysLine file 0 (Header 1 core.name core.agents) → BeginsVersion2 file → ⊥
+not_second core file says b = let e : 1 ≡ 2 = subst IsOfVersion2 (one_says file 0 b.0 (Header 1 core.name core.agents) b.1 says) b.2 in omega (arith, e)
 
 -- then what stops the checker stops the upgrade
 says_first : (core : Core) (file : List ℕ) (s : Stop) → SaysLine file 0 (Header 1 core.name core.agents) → Stops core file s → SaysFirst core file s

@@ -29,7 +29,7 @@ use Rattle.slice_check.specs.declared.verdict.Verdict.TheVariants as verdict
 use Rattle.slice_check.specs.Certificate.{AllPass, AtEnd, CoversFirst, Passes, RefutesFirst, SaysLine, Stands, Takes}
 use Rattle.slice_check.specs.Completeness.{IsDecided}
 use Rattle.slice_check.specs.Faults.{Fails, IsUnread}
-use Rattle.slice_check.specs.Upgrades.{AreShortened, AreWritten, BeginsSecond, IsLast, IsSecond, IsShortened, IsUpgradeEnd, LinesAreOut, Shortens, UpgradeFails, UpgradesGoOn, texts_of}
+use Rattle.slice_check.specs.Upgrades.{AreShortened, AreWritten, BeginsVersion2, IsLast, IsOfVersion2, IsShortened, IsUpgradeEnd, LinesAreOut, Shortens, UpgradeFails, UpgradesGoOn, texts_of}
 use Rattle.slice_check.specs.Upgrading.{RefutesNot}
 use Rattle.slice_check.specs.Verdicts.{HaveOneWidth, IsVerdict}
 use Rattle.slice_check.proofs.Accepting.{stands_few, stands_first, stands_next, stands_tells}
@@ -240,7 +240,7 @@ module _ (core : Core) where
 
     -- ---- the end
 
-    fails : (old new : Option (List ℕ)) (f : CertFault) → (IsUnread f → ⊥) → (BeginsSecond file → ⊥) → Fails core file f → LinesAreOut core file old new → UpgradeFails core file old new (Cert f)
+    fails : (old new : Option (List ℕ)) (f : CertFault) → (IsUnread f → ⊥) → (BeginsVersion2 file → ⊥) → Fails core file f → LinesAreOut core file old new → UpgradeFails core file old new (Cert f)
     fails old new ReadFault u none h lines = absurd (u tt)
     fails old new TooLong u none h lines = (none, h, lines)
     fails old new GoalLimit u none h lines = (none, h, lines)
@@ -253,7 +253,7 @@ module _ (core : Core) where
       lines_out : LinesAreOut core file (Some []) (Some (joined (texts_of core ls ++ [])))
       lines_out = (i, texts_of core ls, written_at core file i ls s, last, ap (λ (ts : List (List ℕ)). Some (joined ts)) (append-nil (texts_of core ls)))
 
-      none : BeginsSecond file → ⊥
+      none : BeginsVersion2 file → ⊥
       none = not_second core file s.stands.header
 
       -- the last line that is right stands where all goals are taken
@@ -286,13 +286,13 @@ module _ (core : Core) where
     abbrev First : Type 0
     First = SaysLine file 0 (Header 1 core.name core.agents)
 
-    tell_head : (l : Line) → SaysLine file 0 l → First ⊎ ((First → ⊥) × Told (BeginsSecond file))
+    tell_head : (l : Line) → SaysLine file 0 l → First ⊎ ((First → ⊥) × Told (BeginsVersion2 file))
     tell_head (Refutation goal m) s =
-        inr ((λ h. let e = one_says file 0 (Refutation goal m) (Header 1 core.name core.agents) s h in absurd cc), inr (λ b. subst IsSecond (one_says file 0 b.0 (Refutation goal m) b.1 s) b.2))
+        inr ((λ h. let e = one_says file 0 (Refutation goal m) (Header 1 core.name core.agents) s h in absurd cc), inr (λ b. subst IsOfVersion2 (one_says file 0 b.0 (Refutation goal m) b.1 s) b.2))
     tell_head (Cover goal passed m) s =
-        inr ((λ h. let e = one_says file 0 (Cover goal passed m) (Header 1 core.name core.agents) s h in absurd cc), inr (λ b. subst IsSecond (one_says file 0 b.0 (Cover goal passed m) b.1 s) b.2))
+        inr ((λ h. let e = one_says file 0 (Cover goal passed m) (Header 1 core.name core.agents) s h in absurd cc), inr (λ b. subst IsOfVersion2 (one_says file 0 b.0 (Cover goal passed m) b.1 s) b.2))
     tell_head (Closing total) s =
-        inr ((λ h. let e = one_says file 0 (Closing total) (Header 1 core.name core.agents) s h in absurd cc), inr (λ b. subst IsSecond (one_says file 0 b.0 (Closing total) b.1 s) b.2))
+        inr ((λ h. let e = one_says file 0 (Closing total) (Header 1 core.name core.agents) s h in absurd cc), inr (λ b. subst IsOfVersion2 (one_says file 0 b.0 (Closing total) b.1 s) b.2))
     tell_head (Header version protocol agents) s = elim (cases_eq version 2) [
       | inl two ↦ inr ((λ h. not_second core file h (Header version protocol agents, s, two)), inl (Header version protocol agents, s, two))
       | inr other ↦ elim (tell_both (cases_eq version 1) (tell_both (tell_same protocol core.name) (cases_eq agents core.agents))) [
@@ -304,12 +304,12 @@ module _ (core : Core) where
               let p : protocol ≡ core.name = cc in
               let a : agents ≡ core.agents = cc in
               not (v, (p, a))),
-          inr (λ b. other (subst IsSecond (one_says file 0 b.0 (Header version protocol agents) b.1 s) b.2)),
+          inr (λ b. other (subst IsOfVersion2 (one_says file 0 b.0 (Header version protocol agents) b.1 s) b.2)),
         )
       ]
     ]
 
-    tell_first : First ⊎ ((First → ⊥) × Told (BeginsSecond file))
+    tell_first : First ⊎ ((First → ⊥) × Told (BeginsVersion2 file))
     tell_first = elim (tell_says file 0 (omega arith)) [
       | inl s ↦ tell_head s.0 s.1
       | inr none ↦ inr ((λ h. none (Header 1 core.name core.agents) h), inr (λ b. none b.0 b.1))
@@ -327,7 +327,7 @@ module _ (core : Core) where
       nothing_out : LinesAreOut core file (Some []) (Some (joined []))
       nothing_out = (0, [], refl, (λ n j ahead t. absurd (no_first t.header)), refl)
 
-      other_end : (BeginsSecond file → ⊥) → IsDecided core file → IsUpgradeEnd core file (joined [])
+      other_end : (BeginsVersion2 file → ⊥) → IsDecided core file → IsUpgradeEnd core file (joined [])
       other_end none (inl (Accepted total, h)) =
           let st = h.2.1.ends.stands in
           elim st.known [
@@ -337,7 +337,7 @@ module _ (core : Core) where
       other_end none (inl (Rejected r, h)) = inl (Rejected r, (inr (none, h), nothing_out))
       other_end none (inr (f, (u, h))) = inr (f, u, fails (Some []) (Some (joined [])) f u none h nothing_out)
 
-      no_first_end : Told (BeginsSecond file) → IsUpgradeEnd core file (joined [])
+      no_first_end : Told (BeginsVersion2 file) → IsUpgradeEnd core file (joined [])
       no_first_end (inl second) = inl (Rejected (rejection.HeaderDiffers Version), (inl (second, refl), nothing_out))
       no_first_end (inr none) = other_end none (files_decided core file)
 

@@ -17,14 +17,14 @@ use Rattle.slice_check.specs.declared.answer.CertFault.TheVariants.{ReadFault, T
 use Rattle.slice_check.specs.declared.upgrade.UpgradeFault.TheVariants.{Cert}
 use Rattle.slice_check.specs.Certificate.{AtEnd, SaysLine, SaysLines, Stands, Takes}
 use Rattle.slice_check.specs.Faults.{Fails, IsAnswer, IsUnread}
-use Rattle.slice_check.specs.Upgrades.{AreOut, AreShortened, AreWhole, AreWritten, BeginsSecond, IsLast, IsSecond, IsShortened, LinesAreOut, RejectsFirst, Shortens, UpgradeFails, UpgradeIs, texts_of}
+use Rattle.slice_check.specs.Upgrades.{AreOut, AreShortened, AreWhole, AreWritten, BeginsVersion2, IsLast, IsOfVersion2, IsShortened, LinesAreOut, RejectsVersion1, Shortens, UpgradeFails, UpgradeIs, texts_of}
 use Rattle.slice_check.proofs.Ahead.{share_count}
 use Rattle.slice_check.proofs.NoFurther.{last_at_none}
 use Rattle.slice_check.proofs.OneStop.{answer_or_fault, one_answer, one_fault, one_rejection}
 use Rattle.slice_check.proofs.Upgraded.{one_says}
 
 -- what a fault says that is neither a failed read nor want of memory
-pub failed : (core : Core) (file : List ℕ) (old new : Option (List ℕ)) (f : CertFault) → (IsUnread f → ⊥) → UpgradeFails core file old new (Cert f) → (BeginsSecond file → ⊥) × Fails core file f × LinesAreOut core file old new
+pub failed : (core : Core) (file : List ℕ) (old new : Option (List ℕ)) (f : CertFault) → (IsUnread f → ⊥) → UpgradeFails core file old new (Cert f) → (BeginsVersion2 file → ⊥) × Fails core file f × LinesAreOut core file old new
 failed core file old new ReadFault u h = absurd (u tt)
 failed core file old new TooLong u h = h
 failed core file old new GoalLimit u h = h
@@ -39,8 +39,8 @@ held xs texts e = let f : Some xs ≡ Some (joined texts) = e in cc
 module _ (core : Core) (file : List ℕ) where
   -- ---- the header
 
-  pub not_second : SaysLine file 0 (Header 1 core.name core.agents) → BeginsSecond file → ⊥
-  not_second h b = let two : IsSecond (Header 1 core.name core.agents) = subst IsSecond (one_says file 0 b.0 (Header 1 core.name core.agents) b.1 h) b.2 in omega (arith, two)
+  pub not_second : SaysLine file 0 (Header 1 core.name core.agents) → BeginsVersion2 file → ⊥
+  not_second h b = let two : IsOfVersion2 (Header 1 core.name core.agents) = subst IsOfVersion2 (one_says file 0 b.0 (Header 1 core.name core.agents) b.1 h) b.2 in omega (arith, two)
 
   pub first_version : (version n i : ℕ) (ahead : List Event) → SaysLine file 0 (Header 1 core.name core.agents) → Stands core file version n ahead i → version ≡ 1
   first_version version n i ahead h s =
@@ -158,11 +158,11 @@ module _ (core : Core) (file : List ℕ) where
   one_total : {m n : ℕ} → Accepted m ≡ Accepted n → m ≡ n
   one_total e = cc
 
-  accepted_apart : (n : ℕ) (r : Rejection) → (BeginsSecond file → ⊥) → IsAnswer core file (Accepted n) → RejectsFirst core file r → ⊥
+  accepted_apart : (n : ℕ) (r : Rejection) → (BeginsVersion2 file → ⊥) → IsAnswer core file (Accepted n) → RejectsVersion1 core file r → ⊥
   accepted_apart n r none h (inl second) = none second.0
   accepted_apart n r none h (inr x) = let bad : Accepted n ≡ Rejected r = one_answer core file (Accepted n) (Rejected r) h x.1 in cc
 
-  one_first : (r s : Rejection) → RejectsFirst core file r → RejectsFirst core file s → r ≡ s
+  one_first : (r s : Rejection) → RejectsVersion1 core file r → RejectsVersion1 core file s → r ≡ s
   one_first r s (inl x) (inl y) = x.1 ∙ sym y.1
   one_first r s (inl x) (inr y) = absurd (y.0 x.0)
   one_first r s (inr x) (inl y) = absurd (x.0 y.0)
@@ -182,11 +182,11 @@ module _ (core : Core) (file : List ℕ) where
       let b = failed core file (Some []) (Some ys) g v y in
       (one_fault core file f g u v a.1 b.1, one_out xs ys a.2 b.2)
 
-  upgraded_apart : (a : CertAnswer) (f : CertFault) (xs : List ℕ) → UpgradeIs core file (Some []) (Some xs) a → (BeginsSecond file → ⊥) → Fails core file f → IsUnread f
+  upgraded_apart : (a : CertAnswer) (f : CertFault) (xs : List ℕ) → UpgradeIs core file (Some []) (Some xs) a → (BeginsVersion2 file → ⊥) → Fails core file f → IsUnread f
   upgraded_apart (Accepted n) f xs x none h = answer_or_fault core file (Accepted n) f x.1 h
   upgraded_apart (Rejected r) f xs x none h = by x.0
     where
-      by : RejectsFirst core file r → IsUnread f
+      by : RejectsVersion1 core file r → IsUnread f
       by (inl second) = absurd (none second.0)
       by (inr y) = answer_or_fault core file (Rejected r) f y.1 h
 

@@ -19,7 +19,7 @@ use Rattle.slice_check.specs.declared.verdict.Verdict.TheVariants.{Yes}
 use Rattle.slice_check.specs.Certificate.{SaysLine}
 use Rattle.slice_check.specs.Faults.{HeaderDiffers}
 use Rattle.slice_check.specs.Steps.{IsOther, Stops, stop_for}
-use Rattle.slice_check.specs.Upgrades.{IsSecond}
+use Rattle.slice_check.specs.Upgrades.{IsOfVersion2}
 use Rattle.slice_check.specs.Upgrading.{BeginHalts, DiffersFirst, IsMoot, LineHalts, RefutesNot, SaysFirst, StopsFirst}
 use Rattle.slice_check.specs.Verdicts.{IsVerdict}
 use Rattle.slice_check.proofs.OneVerdict.{one_verdict}
@@ -43,17 +43,17 @@ no_first name agents Version h = h (inl refl)
 no_first name agents Protocol h = h.1 refl
 no_first name agents Agents h = h.2 refl
 
-first_second : (name : List ℕ) (agents : ℕ) → IsSecond (Header 1 name agents) → ⊥
+first_second : (name : List ℕ) (agents : ℕ) → IsOfVersion2 (Header 1 name agents) → ⊥
 first_second name agents e = omega (arith, e)
 
 pub differs_stops : (core : Core) (file : List ℕ) (l : Line) (f : HeaderField) → SaysLine file 0 l → DiffersFirst core.name core.agents l f → StopsFirst core file (stop.Rejected (rejection.HeaderDiffers f))
 differs_stops core file l f says (inl d) = inr (
-  λ n j ahead x. absurd (first_second core.name core.agents (subst IsSecond (one_says file 0 l (Header 1 core.name core.agents) says x.header) d.0)),
+  λ n j ahead x. absurd (first_second core.name core.agents (subst IsOfVersion2 (one_says file 0 l (Header 1 core.name core.agents) says x.header) d.0)),
   inl ((l, says, d.0), ap rejection.HeaderDiffers d.1),
 )
 differs_stops core file l f says (inr d) = inr (
   λ n j ahead x. absurd (no_first core.name core.agents f (subst (λ (k : Line). HeaderDiffers core.name core.agents k f) (one_says file 0 l (Header 1 core.name core.agents) says x.header) d.1)),
-  inr (λ b. d.0 (subst IsSecond (one_says file 0 b.0 l b.1 says) b.2), (l, says, d.1)),
+  inr (λ b. d.0 (subst IsOfVersion2 (one_says file 0 b.0 l b.1 says) b.2), (l, says, d.1)),
 )
 
 pub begin_halts : (core : Core) (file : List ℕ) (old new : Option (List ℕ)) (h : Halt) → SaysLine file 0 (Header 1 core.name core.agents) → LineHalts old new (line_text (Header 2 core.name core.agents)) h → BeginHalts core file old new h

@@ -53,7 +53,7 @@ pub record Shortens (core : Core) (file : List ℕ) (i : ℕ) (written : List Li
 abbrev pub texts_of : Core → List Line → List (List ℕ)
 texts_of core written = map line_text (Header 2 core.name core.agents ∷ written)
 
--- written before line i is accepted: nothing before the first is
+-- what is out once the lines before line i are found right, and no more is: nothing where i is the first
 abbrev pub AreWritten : Core → List ℕ → ℕ → List (List ℕ) → Type 0
 AreWritten core file zero texts = texts ≡ []
 AreWritten core file (suc i) texts = (written : List Line) × Shortens core file (suc i) written × (texts ≡ texts_of core written)
@@ -63,7 +63,7 @@ abbrev pub AreWhole : Core → List ℕ → ℕ → List (List ℕ) → Type 0
 AreWhole core file total texts =
     (i : ℕ) × (written : List Line) × AtEnd core file total i × Shortens core file i written × (texts ≡ texts_of core written ++ line_text (Closing total) ∷ [])
 
--- such texts; all of them only where the certificate is accepted
+-- texts written so far, before some line; or all, where the certificate is accepted
 abbrev pub AreRight : Core → List ℕ → List (List ℕ) → Type 0
 AreRight core file texts = ((i : ℕ) × AreWritten core file i texts) ⊎ ((total : ℕ) × AreWhole core file total texts × IsAnswer core file (Accepted total))
 
@@ -81,26 +81,26 @@ LinesAreOut core file old new = (i : ℕ) × (texts : List (List ℕ)) × AreWri
 
 -- ---- answers
 
--- the line is a header of version 2
-abbrev pub IsSecond : Line → Type 0
-IsSecond (Header version protocol agents) = version ≡ 2
-IsSecond (Refutation goal multipliers) = ⊥
-IsSecond (Cover goal passed multipliers) = ⊥
-IsSecond (Closing goals) = ⊥
+-- a line that is a header of version 2
+abbrev pub IsOfVersion2 : Line → Type 0
+IsOfVersion2 (Header version protocol agents) = version ≡ 2
+IsOfVersion2 (Refutation goal multipliers) = ⊥
+IsOfVersion2 (Cover goal passed multipliers) = ⊥
+IsOfVersion2 (Closing goals) = ⊥
 
--- and the first of the file
-abbrev pub BeginsSecond : List ℕ → Type 0
-BeginsSecond file = (l : Line) × SaysLine file 0 l × IsSecond l
+-- the file's first line is one
+abbrev pub BeginsVersion2 : List ℕ → Type 0
+BeginsVersion2 file = (l : Line) × SaysLine file 0 l × IsOfVersion2 l
 
--- what is wrong: a header of version 2; otherwise what the checker says
-abbrev pub RejectsFirst : Core → List ℕ → Rejection → Type 0
-RejectsFirst core file r = (BeginsSecond file × (r ≡ rejection.HeaderDiffers Version)) ⊎ ((BeginsSecond file → ⊥) × Rejects core file r)
+-- what is wrong with a file that should be of version 1: its header is of version 2; otherwise what the checker says
+abbrev pub RejectsVersion1 : Core → List ℕ → Rejection → Type 0
+RejectsVersion1 core file r = (BeginsVersion2 file × (r ≡ rejection.HeaderDiffers Version)) ⊎ ((BeginsVersion2 file → ⊥) × Rejects core file r)
 
 -- the whole is out where the certificate is accepted; otherwise the lines before what is wrong
 abbrev pub UpgradeIs : Core → List ℕ → Option (List ℕ) → Option (List ℕ) → CertAnswer → Type 0
 UpgradeIs core file old new (Accepted total) =
-    (BeginsSecond file → ⊥) × IsAnswer core file (Accepted total) × (texts : List (List ℕ)) × AreWhole core file total texts × AreOut old new texts
-UpgradeIs core file old new (Rejected r) = RejectsFirst core file r × LinesAreOut core file old new
+    (BeginsVersion2 file → ⊥) × IsAnswer core file (Accepted total) × (texts : List (List ℕ)) × AreWhole core file total texts × AreOut old new texts
+UpgradeIs core file old new (Rejected r) = RejectsVersion1 core file r × LinesAreOut core file old new
 
 -- why nothing is answered, and the lines so far are out: of a failed read and of memory some of them, with a fault of the
 -- sink a front of their bytes
@@ -108,7 +108,7 @@ abbrev pub UpgradeFails : Core → List ℕ → Option (List ℕ) → Option (Li
 UpgradeFails core file old new WriteFault = (texts : List (List ℕ)) × AreRight core file texts × FrontIsOut old new (joined texts)
 UpgradeFails core file old new (Cert ReadFault) = (i : ℕ) × (texts : List (List ℕ)) × AreWritten core file i texts × AreOut old new texts
 UpgradeFails core file old new (Cert Memory) = (i : ℕ) × (texts : List (List ℕ)) × AreWritten core file i texts × AreOut old new texts
-UpgradeFails core file old new (Cert f) = (BeginsSecond file → ⊥) × Fails core file f × LinesAreOut core file old new
+UpgradeFails core file old new (Cert f) = (BeginsVersion2 file → ⊥) × Fails core file f × LinesAreOut core file old new
 
 -- where the file isn't there: a read failed, or memory was wanted, and nothing is out
 abbrev pub IsMissing : Option (List ℕ) → Option (List ℕ) → UpgradeFault → Type 0

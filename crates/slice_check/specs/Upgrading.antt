@@ -26,7 +26,7 @@ use Rattle.slice_check.specs.declared.verdict.Verdict.TheVariants.{Yes}
 use Rattle.slice_check.specs.Certificate.{SaysLine, Takes, line_limit}
 use Rattle.slice_check.specs.Faults.{Fails, HeaderDiffers, IsUnread}
 use Rattle.slice_check.specs.Steps.{Reached, Stops}
-use Rattle.slice_check.specs.Upgrades.{AreOut, AreShortened, BeginsSecond, IsLast, IsSecond, RejectsFirst, Shortens, UpgradeFails, UpgradeIs, WholeLinesOut}
+use Rattle.slice_check.specs.Upgrades.{AreOut, AreShortened, BeginsVersion2, IsLast, IsOfVersion2, RejectsVersion1, Shortens, UpgradeFails, UpgradeIs, WholeLinesOut}
 use Rattle.slice_check.specs.Verdicts.{IsVerdict}
 
 -- ---- lines
@@ -49,7 +49,7 @@ HaltsBehind old new halt.WriteFault = (ls : List Line) × FrontIsOut old new (jo
 
 -- the first thing in which a line differs from a header of version 1
 abbrev pub DiffersFirst : List ℕ → ℕ → Line → HeaderField → Type 0
-DiffersFirst name agents l f = (IsSecond l × (f ≡ Version)) ⊎ ((IsSecond l → ⊥) × HeaderDiffers name agents l f)
+DiffersFirst name agents l f = (IsOfVersion2 l × (f ≡ Version)) ⊎ ((IsOfVersion2 l → ⊥) × HeaderDiffers name agents l f)
 
 -- ---- stops
 
@@ -154,8 +154,8 @@ GoalsHalt core file old new halt.WriteFault =
 
 -- what is wrong with the first line
 abbrev pub SaysFirst : Core → List ℕ → Stop → Type 0
-SaysFirst core file (stop.Rejected r) = RejectsFirst core file r
-SaysFirst core file (stop.Failed f) = (BeginsSecond file → ⊥) × Fails core file f
+SaysFirst core file (stop.Rejected r) = RejectsVersion1 core file r
+SaysFirst core file (stop.Failed f) = (BeginsVersion2 file → ⊥) × Fails core file f
 
 abbrev pub StopsFirst : Core → List ℕ → Stop → Type 0
 StopsFirst core file s = IsMoot s ⊎ (IsLast core file 0 × SaysFirst core file s)

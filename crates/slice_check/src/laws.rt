@@ -50,7 +50,7 @@ pub fn one_thing_is_said_of_a_file()
 {}
 
 /// What is written of a file by the upgrade, and answered, is one: one answer with one text, or one fault with one, want of memory
-/// and failed reads aside.
+/// and failed reads and writes aside.
 pub fn one_thing_is_written_of_a_file()
     ensures answers { (core : Core) (file : List ℕ) (a b : CertAnswer) (xs ys : List ℕ) → UpgradeIs core file (Some []) (Some xs) a → UpgradeIs core file (Some []) (Some ys) b → (a ≡ b) × (xs ≡ ys) }
     ensures faults { (core : Core) (file : List ℕ) (f g : CertFault) (xs ys : List ℕ) → (IsUnread f → ⊥) → (IsUnread g → ⊥)

@@ -1,5 +1,5 @@
-//! The upgrade of a certificate of version 1: it is checked, and written again in version 2, in as few lines as its
-//! multipliers allow.
+//! The upgrade of a certificate of version 1: it is checked, and written again in version 2, each line in its short form, but
+//! for those of goals that a line before took.
 ghost use Rattle.std.specs.Prelude.{◌≡◌, ◌⊎◌, ◌↔◌, ℕ, ℤ, ◌+◌, ◌<◌, ◌≤◌, List, [], length, IfOk, IfErr, IsTrue, OnOk, Some, None, Err};
 ghost use Rattle.std.specs.List.{All};
 ghost use Rattle.slice_num.specs.Rational.{Fits};
@@ -19,7 +19,7 @@ ghost use Rattle.slice_cert.specs.declared.line.Line.TheVariants.{Header, Refuta
 ghost use Rattle.slice_check.specs.Certificate.{AtEnd, AtGoal, SaysLine, line_limit, file_limit};
 ghost use Rattle.slice_check.specs.Faults.{IsAnswer};
 ghost use Rattle.slice_check.specs.Steps.{IsFresh, IsOther, Reached, ReachedEnd, Stops};
-ghost use Rattle.slice_check.specs.Upgrades.{IsMissing, IsSecond, IsUpgraded, LinesStop, UpgradeFails, UpgradeIs, WholeLinesOut};
+ghost use Rattle.slice_check.specs.Upgrades.{IsMissing, IsOfVersion2, IsUpgraded, LinesStop, UpgradeFails, UpgradeIs, WholeLinesOut};
 ghost use Rattle.slice_check.specs.Upgrading.{BeginHalts, CloseHalts, DiffersFirst, GoalHalts, GoalsHalt, HaltsBehind, HasPassed, IsDone, IsMoot, IsPut, IsReadTo, IsShortOut, IsTakenBy, LineHalts, LinesHalt, ReadsBack, RefutesNot, ShortHalts, StopsFirst};
 ghost use Rattle.slice_check.specs.Verdicts.{HaveOneWidth, IsVerdict};
 
@@ -218,7 +218,7 @@ fn first_of(line: &Line, protocol: &Word, agents: u32) -> Result<(), HeaderField
     ensures ok { OnOk result (line.now ≡ Line.Header 1 protocol.now agents) }
     ensures differs { IfErr result (λ f. DiffersFirst protocol.now agents line.now f) }
 {
-    if is_second(line) {
+    if is_of_version_2(line) {
         return Err(HeaderField::Version);
     }
     match version_of(line, protocol, agents) {
@@ -228,8 +228,8 @@ fn first_of(line: &Line, protocol: &Word, agents: u32) -> Result<(), HeaderField
 }
 
 // Whether the line is a header of version 2.
-fn is_second(line: &Line) -> bool
-    ensures { IsTrue result ↔ IsSecond line.now }
+fn is_of_version_2(line: &Line) -> bool
+    ensures { IsTrue result ↔ IsOfVersion2 line.now }
 {
     match line {
         Line::Header { version, .. } => *version == 2,

@@ -20,7 +20,7 @@ use Rattle.slice_check.specs.declared.answer.CertAnswer.{CertAnswer}
 use Rattle.slice_check.specs.declared.answer.CertAnswer.TheVariants.{Accepted, Rejected}
 use Rattle.slice_check.specs.declared.answer.Rejection.{Rejection}
 use Rattle.slice_check.specs.Certificate.{Accepts, AllPass, Passes, SaysLine, SaysLines, Stands, file_limit, line_limit}
-use Rattle.slice_check.specs.Upgrades.{AreShortened, AreWhole, IsUpgradeEnd, RejectsFirst, UpgradeFails, UpgradeIs, texts_of}
+use Rattle.slice_check.specs.Upgrades.{AreShortened, AreWhole, IsUpgradeEnd, RejectsVersion1, UpgradeFails, UpgradeIs, texts_of}
 use Rattle.slice_check.specs.Upgrading.{AllBrief, AllReadBack, ReadsBack}
 use Rattle.slice_check.proofs.Accepting.{all_taken, stands_few}
 use Rattle.slice_check.proofs.Ahead.{given, plain_tells}
@@ -41,7 +41,7 @@ use Rattle.slice_top.specs.declared.status.Status.TheVariants as status
 use Rattle.slice_top.proofs.CoreRuns.{core_formed}
 use Rattle.slice_top.proofs.Good.{refused_not_good}
 use Rattle.slice_top.proofs.Upgraded.{put_answer}
-use Rattle.slice_laws.specs.Completeness.{CanBeMade, HoldsProtocol, SumsFit, IsFirstCertificate, IsUpgradedText, JudgesUpgrade, upgraded, turned_down, UpgradeJudges, UpgradedFilesAreCertificates}
+use Rattle.slice_laws.specs.Completeness.{CanBeMade, HoldsProtocol, SumsFit, IsVersion1Certificate, IsUpgradedText, JudgesUpgrade, upgraded, turned_down, UpgradeJudges, UpgradedFilesAreCertificates}
 use Rattle.slice_laws.proofs.CertifiedReports.{may_stand}
 use Rattle.slice_laws.proofs.Judged.{not_failed}
 use Rattle.slice_laws.proofs.LinesBack.{line_back}
@@ -146,7 +146,7 @@ module _ (core : Core) (formed : IsWellFormed core) (file : List ℕ) where
     some_end out (inr (f, u, h)) = absurd (not_failed core file none short fit f u (failed core file (Some []) (Some out) f u h).1)
 
   -- what an accepted certificate is, and its answer
-  accepted_text : (out : List ℕ) (total : ℕ) (a : Answer) → UpgradeIs core file (Some []) (Some out) (Accepted total) → a ≡ after_text out (upgrade_end (Accepted total)) → IsFirstCertificate core file × IsUpgradedText core a.text
+  accepted_text : (out : List ℕ) (total : ℕ) (a : Answer) → UpgradeIs core file (Some []) (Some out) (Accepted total) → a ≡ after_text out (upgrade_end (Accepted total)) → IsVersion1Certificate core file × IsUpgradedText core a.text
   accepted_text out total a h e =
       let w = h.3 in
       let same : out ≡ joined h.2 = let f : Some out ≡ Some (joined h.2) = h.4 in cc in
@@ -161,7 +161,7 @@ module _ (core : Core) (formed : IsWellFormed core) (file : List ℕ) where
       upgraded x.0 x.1 (ap (λ (b : Answer). b.status) e)
   judged out (Rejected r) a h e = turned_down (λ is. not_first h.0 is) r h.0 out e
     where
-      not_first : RejectsFirst core file r → IsFirstCertificate core file → ⊥
+      not_first : RejectsVersion1 core file r → IsVersion1Certificate core file → ⊥
       not_first (inl second) is = not_second core file is.header second.0
       not_first (inr x) is = rejected_is_no_certificate core file r x.1 is.accepts
 
@@ -181,7 +181,7 @@ upgrade_judges once files f c bytes p core a h none there short fit answer =
 
 module _ (files : Files) (c : List ℕ) (core : Core) (formed : IsWellFormed core) where
   in_file : (out : List ℕ) (x : CertAnswer) (a : Answer) (o : Option (List ℕ)) → file_of c files ≡ o → UpgradesFile (Some files) c core out x → a ≡ after_text out (upgrade_end x) → a.status ≡ status.Good
-      → (bytes : List ℕ) × (o ≡ Some bytes) × IsFirstCertificate core bytes × IsUpgradedText core a.text
+      → (bytes : List ℕ) × (o ≡ Some bytes) × IsVersion1Certificate core bytes × IsUpgradedText core a.text
   in_file out x a None e h same good = absurd (h.there (ap Some e))
   in_file out (Accepted total) a (Some bytes) e h same good =
       let y = accepted_text core formed bytes out total a (h.says bytes (ap Some e)) same in
@@ -189,13 +189,13 @@ module _ (files : Files) (c : List ℕ) (core : Core) (formed : IsWellFormed cor
   in_file out (Rejected r) a (Some bytes) e h same good = let bad : status.Negative ≡ status.Good = sym (ap (λ (b : Answer). b.status) same) ∙ good in absurd cc
 
   ends_well : (out : List ℕ) (a b : Answer) → EndsUpgrade (Some files) c core out b → a ≡ after_text out b → a.status ≡ status.Good
-      → (bytes : List ℕ) × (file_of c files ≡ Some bytes) × IsFirstCertificate core bytes × IsUpgradedText core a.text
+      → (bytes : List ℕ) × (file_of c files ≡ Some bytes) × IsVersion1Certificate core bytes × IsUpgradedText core a.text
   ends_well out a b (stops r h e) same good = absurd (refused_not_good r b e (sym (ap (λ (x : Answer). x.status) same) ∙ good))
   ends_well out a b (goes x h e) same good = in_file out x a (file_of c files) refl h (same ∙ ap (after_text out) e) good
 
 module _ (files : Files) (f c : List ℕ) (a : Answer) (good : a.status ≡ status.Good) where
   of_program : (text : List ℕ) (p : PlainProgram) → IsFileOf (Some files) f text → IsProgramOf text p → Stage (RefusesCore p) (IsCoreOf p) (IsUpgradeAnswer (Some files) c) a
-      → (p : PlainProgram) × (core : Core) × (bytes : List ℕ) × HoldsProtocol files f p core × (file_of c files ≡ Some bytes) × IsFirstCertificate core bytes × IsUpgradedText core a.text
+      → (p : PlainProgram) × (core : Core) × (bytes : List ℕ) × HoldsProtocol files f p core × (file_of c files ≡ Some bytes) × IsVersion1Certificate core bytes × IsUpgradedText core a.text
   of_program text p file is (stops r h e) = absurd (refused_not_good r a e good)
   of_program text p file is (goes core made (ls, b, ends, same)) =
       let formed : IsWellFormed core = subst IsWellFormed (sym made.same) (core_formed text p core is made) in
@@ -203,7 +203,7 @@ module _ (files : Files) (f c : List ℕ) (a : Answer) (good : a.status ≡ stat
       (p, core, x.0, record { text = text; file = file; spelled = is; made = made }, x.1, x.2, x.3)
 
   of_upgrade : IsAnswer (Some files) (Some (upgrade f c)) a
-      → (p : PlainProgram) × (core : Core) × (bytes : List ℕ) × HoldsProtocol files f p core × (file_of c files ≡ Some bytes) × IsFirstCertificate core bytes × IsUpgradedText core a.text
+      → (p : PlainProgram) × (core : Core) × (bytes : List ℕ) × HoldsProtocol files f p core × (file_of c files ≡ Some bytes) × IsVersion1Certificate core bytes × IsUpgradedText core a.text
   of_upgrade (stops r h e) = absurd (refused_not_good r a e good)
   of_upgrade (goes text file (stops r h e)) = absurd (refused_not_good r a e good)
   of_upgrade (goes text file (goes p is next)) = of_program text p file is next

@@ -25,7 +25,7 @@ use Rattle.slice_paths.specs.Coming.{coming_on}
 use Rattle.slice_check.specs.Certificate.{Accepts, SaysLine, file_limit}
 use Rattle.slice_check.specs.Faults.{Rejects}
 use Rattle.slice_check.specs.Verdicts.{SumFits}
-use Rattle.slice_check.specs.Upgrades.{RejectsFirst, texts_of}
+use Rattle.slice_check.specs.Upgrades.{RejectsVersion1, texts_of}
 use Rattle.slice_check.specs.declared.answer.CertAnswer.TheVariants.{Accepted, Rejected}
 use Rattle.slice_check.specs.declared.answer.Rejection.{Rejection}
 use Rattle.slice_counter.specs.Counter.{IsLow}
@@ -130,7 +130,7 @@ CertifyJudges =
 -- ---- `upgrade F C`
 
 -- the file is a certificate of version 1
-pub record IsFirstCertificate (core : Core) (file : List ℕ) : Type 0 where
+pub record IsVersion1Certificate (core : Core) (file : List ℕ) : Type 0 where
   pub accepts : Accepts core file
   pub header : SaysLine file 0 (Header 1 core.name core.agents)
 
@@ -144,9 +144,9 @@ pub record IsUpgradedText (core : Core) (text : List ℕ) : Type 0 where
 -- where the file is a certificate of version 1, one of version 2 is written, and nothing else; else lines, and then the first
 -- thing that is wrong with it
 pub data JudgesUpgrade (core : Core) (file : List ℕ) (a : Answer) : Type 0 where
-  upgraded : IsFirstCertificate core file → IsUpgradedText core a.text → a.status ≡ status.Good → JudgesUpgrade core file a
+  upgraded : IsVersion1Certificate core file → IsUpgradedText core a.text → a.status ≡ status.Good → JudgesUpgrade core file a
   turned_down :
-      (IsFirstCertificate core file → ⊥) → (r : Rejection) → RejectsFirst core file r → (out : List ℕ) → a ≡ after_text out (one_line (certify_json (Rejected r)) status.Negative) → JudgesUpgrade core file a
+      (IsVersion1Certificate core file → ⊥) → (r : Rejection) → RejectsVersion1 core file r → (out : List ℕ) → a ≡ after_text out (one_line (certify_json (Rejected r)) status.Negative) → JudgesUpgrade core file a
 
 -- where moreover C is within a certificate's limit, and the sums of its multipliers fit
 abbrev pub UpgradeJudges : Type 0
@@ -159,7 +159,7 @@ UpgradeJudges =
 abbrev pub UpgradedFilesAreCertificates : Type 0
 UpgradedFilesAreCertificates =
     (files : Files) (f c : List ℕ) (a : Answer) → IsAnswer (Some files) (Some (upgrade f c)) a → a.status ≡ status.Good
-    → (p : PlainProgram) × (core : Core) × (bytes : List ℕ) × HoldsProtocol files f p core × (file_of c files ≡ Some bytes) × IsFirstCertificate core bytes × IsUpgradedText core a.text
+    → (p : PlainProgram) × (core : Core) × (bytes : List ℕ) × HoldsProtocol files f p core × (file_of c files ≡ Some bytes) × IsVersion1Certificate core bytes × IsUpgradedText core a.text
 
 -- ---- `verify F`
 
