@@ -16,7 +16,7 @@ use Rattle.slice_affine.specs.Pass.{lesser}
 use Rattle.slice_affine.proofs.Spans.{RiseTo}
 use Rattle.slice_affine.proofs.Placed.{Placed, PlacedProcs, names_at}
 use Rattle.slice_affine.specs.Pass as pass
-use Rattle.slice_affine.specs.Pass.{State, Ledger, Passed, Went, Failed, then_pass, tell, told_of, looked, stepped, bound_one}
+use Rattle.slice_affine.specs.Pass.{State, Ledger, Passed, Went, Failed, then_pass, tell, told_of, looked, stepped}
 use Rattle.slice_affine.specs.ProgramPass.{fresh, fresh_cake, bound_param, defined_twice, past_limit, head_step, count_faults, protocol_pass, fault_of, or_else, procs_fault, program_fault}
 use Rattle.slice_affine.proofs.FoundLemmas.{noted_append, none_least, noted_nothing, nothing_found}
 use Rattle.slice_affine.proofs.PartLemmas.{of_kind, seen, sight}

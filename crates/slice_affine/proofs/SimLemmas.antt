@@ -18,7 +18,7 @@ use Rattle.slice_affine.proofs.Scan.{Used, noted, noted_all, twice, stage_faults
 use Rattle.slice_affine.specs.Pass.{lesser}
 use Rattle.slice_affine.proofs.Spans.{RiseTo}
 use Rattle.slice_affine.specs.Pass as pass
-use Rattle.slice_affine.specs.Pass.{State, Ledger, looked, stepped, used, bound, bound_one}
+use Rattle.slice_affine.specs.Pass.{State, Ledger, looked, used, bound}
 use Rattle.slice_affine.proofs.WayLemmas.{in_parts}
 use Rattle.slice_affine.proofs.FoundLemmas.{noted_append, none_least, noted_nothing, nothing_found}
 use Rattle.slice_affine.proofs.TrailLemmas.{Trailed, trailed_then, trailed_bound}

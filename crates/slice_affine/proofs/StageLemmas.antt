@@ -11,7 +11,7 @@ use Rattle.slice_affine.specs.Rules.{event_of, events}
 use Rattle.slice_affine.proofs.Scan.{Used, noted, noted_all, told, twice}
 use Rattle.slice_affine.specs.Pass.{lesser}
 use Rattle.slice_affine.specs.Pass as pass
-use Rattle.slice_affine.specs.Pass.{State, Ledger, looked, stepped, told_at, told_first, index_of, used_by, changed_at, marked, used, used_one, used_where, bound, bound_one}
+use Rattle.slice_affine.specs.Pass.{State, looked, told_at, told_first, index_of, used_by, changed_at, marked, used, used_one, used_where}
 use Rattle.slice_affine.proofs.FoundLemmas.{noted_append, noted_nothing}
 use Rattle.slice_affine.proofs.TrailLemmas.{Trailed, trailed_then, trailed_bound, trailed_marked, changed_get, onto, same_items}
 use Rattle.slice_affine.proofs.PartLemmas.{of_kind, mean, seen, sight, look_sight, asks_told}

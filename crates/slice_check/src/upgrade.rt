@@ -370,8 +370,8 @@ fn multipliers_of(line: Line, goal: u64, at: u64) -> Result<Items<i128>, Stop>
     match taking_of(line, 1, goal, at) {
         Err(stop) => Err(stop),
         Ok(Taking::Goal(multipliers)) => Ok(multipliers),
-        // Version 1 has no such lines.
-        Ok(Taking::Front(_, _)) => Err(Stop::Rejected(Rejection::BadLine { line: at })),
+        // Version 1 has no cover lines.
+        Ok(Taking::Front(_, _)) => unreachable!(),
     }
 }
 

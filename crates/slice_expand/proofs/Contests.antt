@@ -6,7 +6,7 @@ use Rattle.slice_num.specs.Rational.{Rational, whole, IsBelow, IsAtMost}
 use Rattle.slice_num.specs.Fitting.{below, at_most}
 use Rattle.slice_num.specs.declared.choice.Choice.TheVariants as choice
 use Rattle.slice_num.proofs.FieldLaws.{below-true, below-false}
-use Rattle.slice_core.specs.Run.{Piece, Board, Worth, State, Ending, with_board, ask_on, chosen, run}
+use Rattle.slice_core.specs.Run.{Board, Worth, State, Ending, with_board, chosen, run}
 use Rattle.slice_core.specs.Run as core
 use Rattle.slice_expand.specs.ProgramRun.{ProgramEnd, RunState, ask_piece, all_asked, worth_on, picked}
 use Rattle.slice_expand.specs.Expansion.{Offer, offers, offer_asks, offered, contest, contest_all, one_reg, count}

@@ -8,7 +8,7 @@ use Rattle.slice_num.specs.Fitting.{below, at_most}
 use Rattle.slice_num.specs.declared.choice.Side.{Side}
 use Rattle.slice_num.specs.declared.choice.Choice.{Choice}
 use Rattle.slice_num.specs.declared.choice.Choice.TheVariants as choice
-use Rattle.slice_ast.specs.Code.{Code, PlainProc, PlainProgram}
+use Rattle.slice_ast.specs.Code.{Code, PlainProc}
 use Rattle.slice_ast.specs.Code as code
 use Rattle.slice_ast.specs.declared.tree.Name.{Name}
 use Rattle.slice_ast.specs.declared.tree.Cmp.{Cmp}
@@ -18,10 +18,10 @@ use Rattle.slice_ast.specs.declared.tree.Arg.TheVariants as arg
 use Rattle.slice_num.specs.declared.cut_answer.CutAnswer.{CutAnswer}
 use Rattle.slice_core.specs.declared.node.Lin.{Lin}
 use Rattle.slice_num.specs.Pieces.{piece_at, passed}
-use Rattle.slice_core.specs.Run.{Piece, Board, Worth, State, Ending, with_board, ask_on, cut_on, join_on, give_on, chosen, halted, run, first_board, start, Cutting, Halts, Short, Wrong, Halves, cutting, stuck_choice}
+use Rattle.slice_core.specs.Run.{Piece, Board, Worth, State, Ending, with_board, cut_on, join_on, give_on, chosen, run, start, Cutting, Halts, Short, Wrong, Halves, cutting, stuck_choice}
 use Rattle.slice_core.specs.Run as core
 use Rattle.slice_expand.specs.Scope.{Scope, Meaning, AnAgent, APiece, ANumber, looks, bound, bind, agent_at, piece_named, pieces_named, as_pieces, first_scope}
-use Rattle.slice_expand.specs.ProgramRun.{Env, RunState, ProgramEnd, Stuck, unless_more, After, Calls, run_code, compares, picked, worth_on, sum_value, terms_asked, all_asked, arg_value, arg_values, arg_asked, args_asked, param_names, no_calls, calls_with, calls_after, run_program}
+use Rattle.slice_expand.specs.ProgramRun.{Env, RunState, ProgramEnd, Stuck, unless_more, After, Calls, run_code, compares, picked, worth_on, sum_value, terms_asked, all_asked, arg_value, arg_values, args_asked, param_names, no_calls, calls_with, calls_after}
 use Rattle.slice_expand.specs.ProgramRun as program
 use Rattle.slice_expand.specs.Expansion.{Names, Then, Inline, expand, asks_of, sum_lin, test, offers, offer_asks, contest_all, count, args_set, no_inline, inline_with, inline_after}
 use Rattle.slice_expand.specs.Marked.{Marked, plain}

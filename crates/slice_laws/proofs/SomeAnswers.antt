@@ -49,18 +49,17 @@ use Rattle.slice_top.specs.Values.{RefusesValues, RefusesReplay, values_refusal}
 use Rattle.slice_top.specs.declared.status.Status.{Status}
 use Rattle.slice_top.specs.declared.status.Status.TheVariants as status
 use Rattle.slice_check.specs.Certificate.{Accepts}
-use Rattle.slice_check.specs.Faults.{Fails, IsUnread}
+use Rattle.slice_check.specs.Faults.{Fails}
 use Rattle.slice_check.specs.Faults.{IsAnswer as CheckAnswer}
 use Rattle.slice_check.specs.declared.answer.CertAnswer.{CertAnswer}
 use Rattle.slice_check.specs.declared.answer.CertAnswer.TheVariants.{Accepted, Rejected}
-use Rattle.slice_check.specs.declared.answer.CertFault.{CertFault}
 use Rattle.slice_check.proofs.Exclusive.{rejected_is_no_certificate}
 use Rattle.slice_check.proofs.SomeStop.{files_decided}
 use Rattle.slice_gen.specs.Rounds.{rounds_text}
 use Rattle.slice_report.specs.DemoReport.{demo_json}
 use Rattle.slice_core.specs.WellFormed.{IsWellFormed}
 use Rattle.slice_report.specs.CertifyReport.{certify_json}
-use Rattle.slice_top.specs.Certificates.{SaysOfFile, ChecksFile, RefusesCertificate, absent, missing, given_up, checker_refusal, checked_status}
+use Rattle.slice_top.specs.Certificates.{SaysOfFile, ChecksFile, RefusesCertificate, absent, missing, given_up, checked_status}
 use Rattle.slice_top.proofs.CheckedFiles.{checker_refused, says_of}
 use Rattle.slice_top.proofs.Upgraded.{written_on}
 use Rattle.slice_laws.proofs.CertifiedReports.{good_is_accepted}

@@ -1,5 +1,5 @@
 -- `upgrade` writes a certificate of version 2 exactly of those of version 1.
-use Rattle.std.proofs.Common.{◌≡◌, ◌∙◌, ◌⊎◌, inl, inr, ℕ, ◌+◌, ◌<◌, ◌≤◌, ℤ, List, [], ◌∷◌, ◌++◌, length, drop, map, Option, Some, None, refl, sym, ap, subst, arith, append-nil}
+use Rattle.std.proofs.Common.{◌≡◌, ◌∙◌, inl, inr, ℕ, ◌+◌, ◌<◌, ◌≤◌, ℤ, List, [], ◌∷◌, length, drop, map, Option, Some, None, refl, sym, ap, subst, arith, append-nil}
 use Rattle.std.specs.List.{Contains}
 use Rattle.slice_num.specs.Pieces.{joined}
 use Rattle.slice_io.specs.Files.{Files, file_of}
@@ -7,9 +7,8 @@ use Rattle.slice_ast.specs.Code.{PlainProgram}
 use Rattle.slice_parse.specs.Laws.{IsProgramOf, ReadProgramsAreUnique}
 use Rattle.slice_core.specs.Tree.{Core}
 use Rattle.slice_core.specs.WellFormed.{IsWellFormed}
-use Rattle.slice_core.proofs.Counting.{joined-append}
 use Rattle.slice_linear.specs.Rows.{Refutes}
-use Rattle.slice_paths.specs.Events.{Event, Tell, events_of, goal_limit, next_goal}
+use Rattle.slice_paths.specs.Events.{Event, Tell, events_of, goal_limit}
 use Rattle.slice_paths.specs.Goals.{Goal, goals}
 use Rattle.slice_paths.proofs.Tells.{events_tell_goals}
 use Rattle.slice_cert.specs.declared.line.Line.{Line}
@@ -18,9 +17,8 @@ use Rattle.slice_cert.specs.CertLines.{MayStand, line_text}
 use Rattle.slice_cert.specs.ShortForms.{short_line}
 use Rattle.slice_check.specs.declared.answer.CertAnswer.{CertAnswer}
 use Rattle.slice_check.specs.declared.answer.CertAnswer.TheVariants.{Accepted, Rejected}
-use Rattle.slice_check.specs.declared.answer.Rejection.{Rejection}
 use Rattle.slice_check.specs.Certificate.{Accepts, AllPass, Passes, SaysLine, SaysLines, Stands, file_limit, line_limit}
-use Rattle.slice_check.specs.Upgrades.{AreShortened, AreWhole, IsUpgradeEnd, RejectsVersion1, UpgradeFails, UpgradeIs, texts_of}
+use Rattle.slice_check.specs.Upgrades.{AreShortened, AreWhole, IsUpgradeEnd, RejectsVersion1, UpgradeIs}
 use Rattle.slice_check.specs.Upgrading.{AllBrief, AllReadBack, ReadsBack}
 use Rattle.slice_check.proofs.Accepting.{all_taken, stands_few}
 use Rattle.slice_check.proofs.Ahead.{given, plain_tells}

@@ -1,7 +1,7 @@
 -- What each rule of statements, blocks and programs reads.
 use Rattle.std.proofs.Common.{◌≡◌, ℕ, zero, suc, true, false, ◌≤◌, length, List, [], ◌∷◌, ◌++◌, refl, ap, sym, ◌∙◌, append_assoc, append-nil, codes}
 use Rattle.slice_ast.specs.Code.{Code, End, Cut, Let, Join, Give, If, Pick, Call, PlainBlock, PlainProc, PlainProgram, Head, ACut, ALet, AJoin, AGive, AnIf, APick, ACall, put, puts}
-use Rattle.slice_ast.specs.Tokens.{Mark, Plain, Spelled, Digits, Final, listed as listed_marks, more_listed, name_marks, names_after, ref_marks, den_marks, fraction_marks, operand_marks, factor_marks, term_marks, more_marks, terms_marks, sum_marks, cmp_text, arg_marks, kind_text, param_marks, yield_marks, test_marks, code_marks, head_marks, open_marks, block_marks, proc_marks, procs_marks, protocol_marks, program_marks, sign as sign_text}
+use Rattle.slice_ast.specs.Tokens.{Mark, Plain, Spelled, Final, listed as listed_marks, name_marks, names_after, ref_marks, sum_marks, cmp_text, arg_marks, param_marks, yield_marks, test_marks, code_marks, head_marks, open_marks, block_marks, proc_marks, procs_marks, program_marks}
 use Rattle.slice_ast.specs.Tokens as tok
 use Rattle.slice_ast.specs.declared.tree.Name.{Name}
 use Rattle.slice_ast.specs.declared.tree.Sum.{Sum}

@@ -1,7 +1,7 @@
 -- Statements, blocks and programs: what they read, and what begins so.
 use Rattle.std.proofs.Common.{◌≡◌, ℕ, zero, suc, true, List, [], ◌∷◌, ◌++◌, refl, ap, sym, ◌∙◌, append_assoc, append-nil, codes}
 use Rattle.slice_ast.specs.Code.{Code, End, Head, ACut, ALet, AJoin, AGive, AnIf, APick, ACall, put, puts}
-use Rattle.slice_ast.specs.Tokens.{Mark, Plain, Spelled, Digits, Final, listed, more_listed, name_marks, names_after, ref_marks, den_marks, fraction_marks, operand_marks, factor_marks, term_marks, more_marks, terms_marks, sum_marks, cmp_text, arg_marks, kind_text, param_marks, yield_marks, test_marks, code_marks, head_marks, open_marks, block_marks, proc_marks, procs_marks, protocol_marks, program_marks, sign as sign_text}
+use Rattle.slice_ast.specs.Tokens.{Mark, Plain, Spelled, Digits, Final, listed, name_marks, names_after, ref_marks, sum_marks, cmp_text, yield_marks, test_marks, code_marks, head_marks, open_marks, block_marks, proc_marks, procs_marks, program_marks}
 use Rattle.slice_ast.specs.Tokens as tok
 use Rattle.slice_ast.specs.declared.tree.Name.{Name}
 use Rattle.slice_ast.specs.declared.tree.Sum.{Sum}

@@ -1,5 +1,5 @@
 -- A text is read as one program, with its places.
-use Rattle.std.proofs.Common.{◌≡◌, ◌∙◌, ℕ, ◌≤◌, List, [], ◌∷◌, map, length, refl, ap, sym, subst, append-nil, arith}
+use Rattle.std.proofs.Common.{◌≡◌, ◌∙◌, ℕ, List, [], ◌∷◌, map, length, refl, ap, sym, subst, append-nil}
 use Rattle.slice_lex.specs.declared.token.Token as lex
 use Rattle.slice_lex.specs.Lexing.{IsLexing, Tokens, texts_of as lexed_texts}
 use Rattle.slice_lex.proofs.Spelled.{lexed_spelled}

@@ -1,7 +1,7 @@
 -- A place's way is the one that makes its choices.
 use Rattle.std.proofs.Common.{◌≡◌, ◌∙◌, ℕ, refl, sym, ap, subst, List, [], ◌∷◌, ◌++◌, ◌⊎◌, inl, inr, append_assoc, append-nil, ◌+◌, ◌≤◌, max, arith}
 use Rattle.slice_num.specs.declared.choice.Choice.{Choice}
-use Rattle.slice_num.specs.declared.choice.Choice.TheVariants.{Low, High, Go, Yes, No}
+use Rattle.slice_num.specs.declared.choice.Choice.TheVariants.{Low, High, Yes, No}
 use Rattle.slice_num.specs.declared.choice.Choice.TheVariants as choice
 use Rattle.slice_core.specs.Tree.{Tree, Core, Ask, Set, Cut, Join, Test, Give, End}
 use Rattle.slice_num.specs.Pieces.{piece_at, passed}

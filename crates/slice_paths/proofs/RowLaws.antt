@@ -3,7 +3,7 @@ use Rattle.std.proofs.Common.{◌≡◌, ◌∙◌, ℕ, suc, ◌≤◌, ◌==�
 use Rattle.std.specs.Prelude.{map, if◌then◌else◌, ◌&&◌, ◌||◌, nat_le}
 use Rattle.std.proofs.lemmas.Bool.Decides.{nat_tests}
 use Rattle.std.proofs.lemmas.List.{map-append}
-use Rattle.slice_num.specs.Rational.{Rational, whole, plus, minus, negated}
+use Rattle.slice_num.specs.Rational.{Rational, whole, plus, negated}
 use Rattle.slice_num.proofs.FieldLaws.{plus_zero_right}
 use Rattle.slice_linear.specs.declared.forms.FormFault.{FormFault}
 use Rattle.slice_linear.specs.declared.forms.FormFault.TheVariants.{Overflow, Memory}

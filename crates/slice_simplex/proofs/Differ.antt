@@ -6,7 +6,7 @@ use Rattle.std.specs.Result.{IfErr}
 use Rattle.slice_tableau.specs.System.{lines, start_cell, own_column, list_column}
 use Rattle.slice_tableau.specs.Table.{Table, IsTableauOf, IsFirst}
 use Rattle.slice_tableau.specs.Run.{IsPivotRun, begins, goes_on}
-use Rattle.slice_tableau.proofs.RunLaws.{Stage, IsHigh, IsRisen, Each, Distinct, known}
+use Rattle.slice_tableau.proofs.RunLaws.{Each, Distinct, known}
 use Rattle.slice_tableau.proofs.RunLaws as laws
 use Rattle.slice_simplex.specs.Bases.{HaveSameColumns, NoneWithColumnsOf, AllDiffer, HasBases, FaultShows}
 use Rattle.slice_simplex.specs.ProverAnswer.{IsAtLimit, FaultMeans}

@@ -8,7 +8,7 @@ use Rattle.slice_parse.specs.Laws.{IsProgramOf}
 use Rattle.slice_core.specs.Agents.{IsAgent}
 use Rattle.slice_core.specs.Division.{IsDivision, IsFair}
 use Rattle.slice_core.specs.Measures.{worth_of, length_of}
-use Rattle.slice_core.specs.Run.{Ending, run_core}
+use Rattle.slice_core.specs.Run.{Ending}
 use Rattle.slice_core.specs.Run as core
 use Rattle.slice_core.specs.Tree.{Core}
 use Rattle.slice_core.specs.WellFormed.{IsWellFormed}
