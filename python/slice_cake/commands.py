@@ -195,14 +195,17 @@ def _watched(work: Work, progress: Optional[Watch]) -> Iterator[bytes]:
     """The lines as they come; progress is told now and then, and after the last."""
     begin = told = time.monotonic()
     count, line = 0, b"{}"
+
+    def tell() -> None:
+        if progress:
+            progress(Progress(count, work.read(line, lambda it: it.get("goal")), time.monotonic() - begin))
+
     for count, line in enumerate(work.lines(), 1):
         yield line
-        now = time.monotonic()
-        if progress and now - told >= PAUSE:
-            told = now
-            progress(Progress(count, work.object(line).get("goal"), now - begin))
-    if progress:
-        progress(Progress(count, work.object(line).get("goal"), time.monotonic() - begin))
+        if time.monotonic() - told >= PAUSE:
+            tell()
+            told = time.monotonic()
+    tell()
 
 
 def _lines(content: Content) -> Iterator[str]:

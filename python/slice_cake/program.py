@@ -59,13 +59,14 @@ class Work:
         self._status: Optional[int] = None
 
     def __enter__(self) -> Work:
+        self._program = program()
         with ExitStack() as stack:
             room = Path(stack.enter_context(tempfile.TemporaryDirectory(prefix="slice-")))
             names = [_named(content, room / f"{number}.txt") for number, content in enumerate(self._files)]
             self._beside: IO[bytes] = stack.enter_context(tempfile.TemporaryFile())
             try:
                 self._process = subprocess.Popen(
-                    [program(), self._command, *names, *self._words], stdin=subprocess.DEVNULL, stdout=subprocess.PIPE,
+                    [self._program, self._command, *names, *self._words], stdin=subprocess.DEVNULL, stdout=subprocess.PIPE,
                     stderr=self._beside, start_new_session=True)
             except OSError as fault:
                 raise faults.ProgramNotFound(str(fault)) from fault
@@ -93,7 +94,7 @@ class Work:
             if not raw.endswith(b"\n") or refused is not None:
                 raise self.failed("its output breaks off", raw)
             if raw.startswith(b"{") and b'"refused":' in raw:
-                refused = self.object(raw)
+                refused = self.read(raw, lambda line: {**line, "refused": str(line["refused"])})
             else:
                 yield raw[:-1]
         self._status = self._process.wait()
@@ -144,7 +145,7 @@ class Work:
     def failed(self, what: str, raw: bytes = b"") -> faults.ProgramFailed:
         """The exception that says what went wrong, with the line and what stands on standard error."""
         shown = [raw[:200].decode(errors="replace").rstrip("\n")] if raw else []
-        return faults.ProgramFailed("\n".join([f"{program()} {self._command}: {what}", *shown, *self._told()]))
+        return faults.ProgramFailed("\n".join([f"{self._program} {self._command}: {what}", *shown, *self._told()]))
 
 
 def _calls_inside() -> int:
@@ -163,5 +164,7 @@ def _named(content: Content, file: Path) -> str:
     """The path of a file that holds the content: its own, or that of `file`, which is written."""
     if not isinstance(content, (str, bytes)):
         return os.fspath(content)
+    if isinstance(content, str) and os.path.isfile(content):
+        raise TypeError(f"{content!r} is the name of a file: give pathlib.Path({content!r}), or the file's text")
     file.write_bytes(_bytes(content))
     return str(file)
