@@ -13,8 +13,8 @@ from pathlib import Path
 from unittest import mock
 
 from slice_cake import (EnvyFree, Goal, InputFault, LimitReached, OutOfMemory, ProgramFailed, ProgramNotFound,
-                        ProtocolFault, Refusal, SliceError, SliceWarning, Valuation, certify, check, demo, paths, program,
-                        replay, run, verify)
+                        ProtocolFault, Refusal, SliceError, SliceWarning, Valuation, canonical, certify, check, demo, paths,
+                        program, replay, run, verify)
 
 from .examples import CC, CCERT, DEEP
 
@@ -49,9 +49,9 @@ class Places(unittest.TestCase):
         # The lines before have 22 and 5 bytes: the letter has two.
         fault = raised(ProtocolFault, check, "protocol p agents 1 {\n# ä\n?}")
         self.assertEqual((fault.line, fault.column, fault.place.offset), (3, 1, 27))
-        # This dash has three bytes, but stands behind letters of one.
-        fault = raised(ProtocolFault, check, "protocol p agents 1 { – }")
-        self.assertEqual((fault.line, fault.column, fault.place.text), (1, 23, "protocol p agents 1 { – }"))
+        # Here the letter stands on the line of the fault, which has 25 characters.
+        fault = raised(ProtocolFault, check, "protocol p agents 1 { # ä")
+        self.assertEqual((fault.line, fault.column, fault.place.offset), (1, 26, 26))
 
     def test_the_end_of_the_text(self):
         self.assertIn("the file ends too soon", str(raised(ProtocolFault, check, "")))
@@ -125,9 +125,11 @@ class Programs(unittest.TestCase):
             self.assertEqual(verify(CC), EnvyFree("cc", 2, 6, 2))
         for script in (HEADER + CLOSED + "exit 1", HEADER + MET, HEADER + CLOSED + "kill -9 $$", HEADER + "exit 0", "exit 4",
                        HEADER + "printf '{\"closing\":\"envy-free\",\"goals\":6}'", HEADER + "echo what", "echo 5",
-                       HEADER + CLOSED + "exit 3", HEADER + "echo '{\"refused\":\"memory\"}'"):
+                       HEADER + CLOSED + "exit 3", HEADER + CLOSED + "echo '{\"refused\":\"memory\"}'"):
             with stand_in(script):
                 raised(ProgramFailed, verify, CC)
+        with stand_in("printf 'protocol p agents 1 {\\n}'"):
+            raised(ProgramFailed, canonical, CC)
         with stand_in(f"echo '{GOAL}'; echo '{{\"goals\":2}}'"):
             raised(ProgramFailed, list, paths(CC))
         with stand_in("echo '{\"accepted\":true,\"goals\":6}'; exit 1"):
@@ -177,6 +179,15 @@ class Streams(unittest.TestCase):
             self.assertFalse(self.gone(room))
             goals.close()
             self.assertTrue(self.gone(room))
+
+    def test_a_program_that_is_silent_is_ended(self):
+        with stand_in(f"echo $$ > number; echo '{GOAL}'; exec sleep 50") as room:
+            begin = time.monotonic()
+            goals = paths(CC)
+            next(goals)
+            goals.close()
+            self.assertTrue(self.gone(room))
+            self.assertLess(time.monotonic() - begin, 20)
 
     def test_a_callback_can_end_the_work(self):
         def enough(progress):
