@@ -30,8 +30,10 @@ PATTERNS = (
     f"repeating-linear-gradient(45deg, transparent 0 3px, {INK} 3px 5px)",
 )
 NOBODYS = f"repeating-linear-gradient(135deg, transparent 0 3px, {INK} 3px 4px) #e2e2de"
-# Points closer to each other than this part of the cake have one label, and narrower stretches none.
-APART = Fraction(1, 25)
+# Stretches that are narrower than this part of the cake have no label.
+NARROW = Fraction(1, 25)
+# A letter of a label takes so much of a strip, or less.
+LETTER = Fraction(3, 200)
 
 with open(os.path.join(os.path.dirname(os.path.abspath(__file__)), "pictures.css"), encoding="utf-8") as _file:
     STYLE = f"<style>\n{_file.read()}</style>"
@@ -159,18 +161,23 @@ def _block(stretch: Stretch, length: Fraction, height: Fraction, agent: Optional
     """A rectangle over a stretch of the cake, as high as this part of the strip."""
     place = (f"left:{_of(stretch.start / length)};width:{_of((stretch.end - stretch.start) / length)};"
              f"height:{_of(height)}")
-    label = f"<i>{agent}</i>" if agent and stretch.end - stretch.start >= APART * length else ""
+    label = f"<i>{agent}</i>" if agent and stretch.end - stretch.start >= NARROW * length else ""
     return f'<b style="{place};background:{_fill(agent)}" title="{stretch}">{label}</b>'
 
 
 def _axis(points: Iterable[Fraction], length: Fraction) -> str:
-    """The points below a strip; where they are too close to each other, some of them."""
+    """The points below a strip; where the labels would overlap, some of them."""
     shown: List[Fraction] = []
     for point in sorted(set(points) - {length}):
-        if not shown or min(point - shown[-1], length - point) >= APART * length:
+        if not shown or _apart(shown[-1], point, length) and _apart(point, length, length):
             shown.append(point)
     labels = [f'<span style="left:{_of(point / length)}">{point}</span>' for point in [*shown, length]]
     return f'<div class="axis">{"".join(labels)}</div>'
+
+
+def _apart(left: Fraction, right: Fraction, length: Fraction) -> bool:
+    """Whether the labels of two points have room, each centered below its point, with a letter between."""
+    return right - left >= (len(str(left)) + len(str(right)) + 2) * LETTER / 2 * length
 
 
 def _key(agent: int) -> str:
