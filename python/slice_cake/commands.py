@@ -45,14 +45,21 @@ def canonical(text: Content) -> str:
 
 
 def run(text: Content, valuations: Iterable[Taste]) -> Run:
-    """Runs the protocol on what each agent likes, a valuation for each. Each cut is answered by the least right answer."""
+    """Runs the protocol. Each cut is answered by the least right answer.
+
+    valuations: what each agent likes, one for each agent, agent 1 first; all on a cake of the same length L.
+    """
     tastes = tuple(map(Valuation.of, valuations))
     with Work("run", [text, results.valuations_text(tastes)]) as work:
         return work.ended(work.read(work.line(), lambda line: results.run_of(line, tastes)))
 
 
 def replay(text: Content, valuations: Iterable[Taste], cuts: Iterable[Point]) -> Run:
-    """Runs the protocol on these valuations, with these answers to its cuts, in order."""
+    """Runs the protocol with given answers to its cuts.
+
+    valuations: as in `run`. cuts: an answer for each cut of the run, in the order in which they are asked: points from 0
+    to L, of a joined piece with the part that holds it (`Answer`).
+    """
     tastes = tuple(map(Valuation.of, valuations))
     answers = [_answer(cut) for cut in cuts]
     with Work("replay", [text, results.replay_text(tastes, answers)]) as work:
