@@ -156,15 +156,22 @@ def _judgement(line: Object) -> Union[Accepted, Rejected]:
 
 def _decision(header: Object, line: Object, count: int) -> Union[EnvyFree, Counterexample]:
     """The decision that the last of so many lines tells. The run of a counterexample isn't known yet."""
-    if line["closing"] == "envy-free":
-        return EnvyFree(header["protocol"], header["agents"], line["goals"], count)
-    return Counterexample(header["protocol"], header["agents"], line["goal"], results.outcome(line["outcome"]),
-                          tuple(map(Valuation.of, line["valuations"])), tuple(map(Answer.of, line["cuts"])), None)
+    if line["closing"] == "counterexample":
+        return Counterexample(header["protocol"], header["agents"], line["goal"], results.outcome(line["outcome"]),
+                              tuple(map(Valuation.of, line["valuations"])), tuple(map(Answer.of, line["cuts"])), None)
+    return _envy_free(header, line, count)
 
 
 def _upgraded(header: Object, line: Object, count: int) -> Union[EnvyFree, Rejected]:
     """What the last of so many lines of `upgrade` tells."""
-    return Rejected.of(line) if "accepted" in line else EnvyFree(header["protocol"], header["agents"], line["goals"], count)
+    return Rejected.of(line) if "fault" in line else _envy_free(header, line, count)
+
+
+def _envy_free(header: Object, line: Object, count: int) -> EnvyFree:
+    """What the closing line of a certificate of so many lines tells."""
+    if line["closing"] != "envy-free":
+        raise ValueError(line["closing"])
+    return EnvyFree(header["protocol"], header["agents"], line["goals"], count)
 
 
 def _run_of(text: Content, met: Counterexample) -> Optional[Run]:

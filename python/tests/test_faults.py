@@ -14,7 +14,7 @@ from unittest import mock
 
 from slice_cake import (EnvyFree, Goal, InputFault, LimitReached, OutOfMemory, ProgramFailed, ProgramNotFound,
                         ProtocolFault, Refusal, SliceError, SliceWarning, Valuation, canonical, certify, check, demo, paths,
-                        program, replay, run, verify)
+                        program, replay, run, upgrade, verify)
 
 from .examples import CC, CCERT, DEEP
 
@@ -128,6 +128,9 @@ class Programs(unittest.TestCase):
                        HEADER + CLOSED + "exit 3", HEADER + CLOSED + "echo '{\"refused\":\"memory\"}'"):
             with stand_in(script):
                 raised(ProgramFailed, verify, CC)
+        with stand_in(HEADER + "echo '{\"goals\":6}'"):
+            raised(ProgramFailed, verify, CC)
+            raised(ProgramFailed, upgrade, CC, CCERT)
         with stand_in("printf 'protocol p agents 1 {\\n}'"):
             raised(ProgramFailed, canonical, CC)
         with stand_in(f"echo '{GOAL}'; echo '{{\"goals\":2}}'"):
