@@ -1,9 +1,10 @@
 """The words for refusals and faults: their fields fill them, and tools/explain has the same ones."""
 import importlib.machinery
+import importlib.util
 import os
 import sys
-import types
 import unittest
+from unittest import mock
 
 from slice_cake.words import WORDS, meaning, named
 
@@ -20,10 +21,11 @@ class Words(unittest.TestCase):
         self.assertEqual(meaning("Overflow", {"goal": 3, "unknown": 1}, 0), "a number at goal 3 doesn't fit into 128 bits")
 
     def test_explain_says_the_same(self):
-        explain = types.ModuleType("explain")
-        keeps, sys.dont_write_bytecode = sys.dont_write_bytecode, True
-        importlib.machinery.SourceFileLoader("explain", FILE).exec_module(explain)
-        sys.dont_write_bytecode = keeps
+        loader = importlib.machinery.SourceFileLoader("explain", FILE)
+        spec = importlib.util.spec_from_loader("explain", loader)
+        explain = importlib.util.module_from_spec(spec)
+        with mock.patch.object(sys, "dont_write_bytecode", True):
+            loader.exec_module(explain)
         for group, table in (("refusals", explain.MEANINGS), ("faults", explain.FAULTS), ("sides", explain.SIDES)):
             self.assertEqual({name: table.get(name) for name in WORDS[group]}, WORDS[group])
 
