@@ -64,13 +64,14 @@ const upright = (x, top, ground, more) => svg('line', { x1: x, x2: x, y1: top, y
 const pictureOf = (tall, spoken, ...parts) =>
   el('div', { class: 'picture' }, svg('svg', { viewBox: `0 0 ${wide} ${tall}`, role: 'img', 'aria-label': spoken }, ...parts));
 
-// Names of points under a picture, as many as have room.
-function pointLabels(points, x, length, y) {
-  let last = -99;
-  return [...points].sort((a, b) => a[0] - b[0]).map(([at, name]) => {
-    const half = name.length * 4, left = at === 0 ? x(at) : at === length ? x(at) - 2 * half : x(at) - half;
-    if (left < last + 8) return null;
-    last = left + 2 * half;
+// Names of points under a picture, as many as have room: first that of the newest cut, then those of both ends.
+function pointLabels(points, x, length, y, newest = null) {
+  const rank = at => at === newest ? 0 : at === 0 || at === length ? 1 : 2;
+  const taken = [];
+  return [...points].sort((a, b) => rank(a[0]) - rank(b[0]) || a[0] - b[0]).map(([at, name]) => {
+    const room = name.length * 8, from = x(at) - (at === 0 ? 0 : at === length ? room : room / 2);
+    if (taken.some(it => from < it.to + 8 && it.from < from + room + 8)) return null;
+    taken.push({ from, to: from + room });
     return label(x(at), y, name, at === 0 ? 'start' : at === length ? 'end' : 'middle');
   });
 }
@@ -87,7 +88,7 @@ function cakeStrip(held, length, fresh) {
     held.map(it => block(x(it.from), x(it.to), 14, 48, { fill: fill(it), stroke: 'var(--ink)' })),
     held.map(it => numberIn(x(it.from), x(it.to), 37, it.agent)),
     at === null ? null : [svg('path', { d: `M${at} 13l-6 -11h12z`, fill: 'var(--ink)' }), upright(at, 12, 50, { 'stroke-width': 3 })],
-    pointLabels(points, x, length, 66));
+    pointLabels(points, x, length, 66, fresh === undefined ? null : nearOf(fresh)));
 }
 
 // What an agent likes, in grey. With a run the area under the steps is filled by who got it, so that an area is a value.
